@@ -1,0 +1,165 @@
+-- How the machine goes on: runs in sequence, code in the text, and what each instruction does.
+use Rattle.std.proofs.Common.{◌≡◌, ℕ, zero, suc, ◌+◌, ◌-◌, ◌*◌, ◌/◌, ◌%◌, ◌^◌, ◌<◌, ◌≤◌, ◌≢◌, List, [], ◌∷◌, ◌++◌, length, drop, ap, ◌∙◌, sym, subst, refl, arith, Option, Some, None, Bool, true, false, cond, ℤ, pos, get_or}
+use Rattle.std.specs.Prelude.{slice_get, slice_index, slice_set, ◌==◌, nat_le, ◌&&◌, not}
+use Rattle.std.proofs.lemmas.Bool.Decides.{nat_tests}
+use Rattle.std.proofs.lemmas.List.{get_or-set_same, get_or-set_other}
+use Rattle.bk_rv_isa.specs.declared.inst.RegisterOp.{RegisterOp}
+use Rattle.bk_rv_isa.specs.declared.inst.RegisterOp.TheVariants.{Add}
+use Rattle.bk_rv_isa.specs.declared.inst.ImmediateOp.TheVariants.{Addi}
+use Rattle.bk_rv_isa.specs.declared.inst.ImmediateOp.{ImmediateOp}
+use Rattle.bk_rv_isa.specs.declared.inst.ShiftOp.{ShiftOp}
+use Rattle.bk_rv_isa.specs.declared.inst.LoadOp.{LoadOp}
+use Rattle.bk_rv_isa.specs.declared.inst.LoadOp.TheVariants.{Ld}
+use Rattle.bk_rv_isa.specs.declared.inst.StoreOp.{StoreOp}
+use Rattle.bk_rv_isa.specs.declared.inst.StoreOp.TheVariants.{Sd}
+use Rattle.bk_rv_isa.specs.declared.inst.BranchOp.{BranchOp}
+use Rattle.bk_rv_isa.specs.declared.inst.BranchOp.TheVariants.{Bgeu}
+use Rattle.bk_rv_isa.specs.declared.inst.Inst.{Inst}
+use Rattle.bk_rv_isa.specs.declared.inst.Inst.TheVariants.{Op, OpImm, Shift, Addiw, Load, Store, Branch, Lui, Auipc, Jal, Jalr, Ebreak}
+use Rattle.bk_rv_isa.specs.declared.stop.Stop.{Stop}
+use Rattle.bk_rv_isa.specs.declared.stop.Stop.TheVariants.{Returned, Trapped, Fault}
+use Rattle.bk_rv_isa.specs.Encoding.{decoding}
+use Rattle.bk_rv_isa.specs.Machine.{Machine, Gives, text_base, halt, reg, put, plus, extended, decoded, fetch, load, store, jumped, with_reg, with_windows, register_result, immediate_result, shift_result, load_size, load_result, store_size, is_taken, on_load, on_store, act, act_if, step, go_on, run, HasAt, Begins, Leads}
+
+-- runs
+
+pub stays : (m : Machine) → Leads m m
+stays m = record { by = λ k. (k, refl) }
+
+pub then : (m m1 m2 : Machine) → Leads m m1 → Leads m1 m2 → Leads m m2
+then m m1 m2 l r = record { by = λ k. let b = r.by k in let a = l.by b.0 in (a.0, a.1 ∙ b.1) }
+
+-- the stop that a later machine comes to
+pub stops : (m m' : Machine) (n : ℕ) (g : Gives) → Leads m m' → run n m' ≡ g → (j : ℕ) × (run j m ≡ g)
+stops m m' n g l e = let b = l.by n in (b.0, b.1 ∙ e)
+
+-- the machine at the return address has returned
+pub returned : (m : Machine) → m.pc ≡ halt → run 1 m ≡ (Some Returned, m)
+returned m h = ap (λ p. go_on (cond (p == halt) (Some Returned, m) (act_if (fetch m.text m.pc) m)) (run 0)) h
+
+-- code in the text
+
+pub has_front : (a b : List Inst) (text : List ℕ) (pc : ℕ) → HasAt text pc (a ++ b) → HasAt text pc a
+has_front [] b text pc h = tt
+has_front (i ∷ a) b text pc h = (h.0, has_front a b text (pc + 4) h.1)
+
+pub has_back : (a b : List Inst) (text : List ℕ) (pc : ℕ) → HasAt text pc (a ++ b) → HasAt text (pc + 4 * length a) b
+has_back [] b text pc h = let e : pc ≡ pc + 4 * 0 = omega arith in subst (λ p. HasAt text p b) e h
+has_back (i ∷ a) b text pc h =
+    let e : pc + 4 + 4 * length a ≡ pc + 4 * suc (length a) = omega arith in
+    subst (λ p. HasAt text p b) e (has_back a b text (pc + 4) h.1)
+
+-- where the words behind k words begin with the code, it stands at their address
+fetch_at : (text : List ℕ) (k : ℕ) → fetch text (65536 + 4 * k) ≡ decoded (slice_get text k)
+fetch_at text k =
+    let t : nat_le text_base (65536 + 4 * k) && (65536 + 4 * k) % 4 == 0 ≡ true = grind (arith, nat_tests) in
+    let e : (65536 + 4 * k - 65536) / 4 ≡ k = omega arith in
+    ap (λ b. cond b (decoded (slice_get text ((65536 + 4 * k - 65536) / 4))) None) t ∙ ap (λ j. decoded (slice_get text j)) e
+
+get_drop : (text : List ℕ) (k w : ℕ) (ws : List ℕ) → drop k text ≡ w ∷ ws → (slice_get text k ≡ Some w) × (drop (suc k) text ≡ ws)
+get_drop [] zero w ws h = cc
+get_drop [] (suc k) w ws h = cc
+get_drop (x ∷ text) zero w ws h = (let q = h in cc, let q = h in cc)
+get_drop (x ∷ text) (suc k) w ws h = get_drop text k w ws h
+
+pub has_words : (is : List Inst) (text words : List ℕ) (k : ℕ) → drop k text ≡ words → Begins words is → HasAt text (65536 + 4 * k) is
+has_words [] text words k e h = tt
+has_words (i ∷ is) text [] k e h = elim h [ ]
+has_words (i ∷ is) text (w ∷ ws) k e h =
+    let g = get_drop text k w ws e in
+    let p : 65536 + 4 * suc k ≡ 65536 + 4 * k + 4 = omega arith in
+    (fetch_at text k ∙ ap decoded g.0 ∙ h.0, subst (λ q. HasAt text q is) p (has_words is text ws (suc k) g.1 h.1))
+
+pub has_dropped : (is : List Inst) (text : List ℕ) (k : ℕ) → Begins (drop k text) is → HasAt text (65536 + 4 * k) is
+has_dropped is text k h = has_words is text (drop k text) k refl h
+
+-- registers
+
+pub same_reg : (regs : List ℕ) (k v : ℕ) → k < length regs → slice_index (slice_set regs k v) k ≡ v
+same_reg regs k v h = get_or-set_same regs k v 0 h
+
+pub other_reg : (regs : List ℕ) (k j v : ℕ) → j ≢ k → slice_index (slice_set regs k v) j ≡ slice_index regs j
+other_reg regs k j v h = get_or-set_other regs k j v 0 h
+
+-- one instruction
+
+guard : {A : Type 0} (b : Bool) (x : Option A) (i : A) → cond b x None ≡ Some i → b ≡ true
+guard true x i h = refl
+guard false x i h = cc
+
+apart : (pc : ℕ) → nat_le 65536 pc && pc % 4 == 0 ≡ true → (pc == 61440) ≡ false
+apart pc h = grind (arith, nat_tests)
+
+pub one : (m : Machine) (i : Inst) → fetch m.text m.pc ≡ Some i → (k : ℕ) → run (suc k) m ≡ go_on (act i m) (run k)
+one m i h k =
+    let t : (m.pc == halt) ≡ false = apart m.pc (guard (nat_le 65536 m.pc && m.pc % 4 == 0) (decoded (slice_get m.text ((m.pc - 65536) / 4))) i h) in
+    ap (λ b. go_on (cond b (Some Returned, m) (act_if (fetch m.text m.pc) m)) (run k)) t ∙ ap (λ o. go_on (act_if o m) (run k)) h
+
+-- an instruction that gives the next machine leads there
+pub leads : (m m' : Machine) (i : Inst) → fetch m.text m.pc ≡ Some i → act i m ≡ (None, m') → Leads m m'
+leads m m' i h e = record { by = λ k. (suc k, one m i h k ∙ ap (λ g. go_on g (run k)) e) }
+
+pub op : (m : Machine) (o : RegisterOp) (rd a b n : ℕ) → fetch m.text m.pc ≡ Some (Op o rd a b) → register_result o (reg m.regs a) (reg m.regs b) ≡ n → Leads m (with_reg m rd n)
+op m o rd a b n h e = leads m (with_reg m rd n) (Op o rd a b) h (ap (λ v. (None, with_reg m rd v)) e)
+
+pub op_imm : (m : Machine) (o : ImmediateOp) (rd a n : ℕ) (z : ℤ) → fetch m.text m.pc ≡ Some (OpImm o rd a z) → immediate_result o (reg m.regs a) z ≡ n → Leads m (with_reg m rd n)
+op_imm m o rd a n z h e = leads m (with_reg m rd n) (OpImm o rd a z) h (ap (λ v. (None, with_reg m rd v)) e)
+
+pub shift : (m : Machine) (o : ShiftOp) (rd a c n : ℕ) → fetch m.text m.pc ≡ Some (Shift o rd a c) → shift_result o (reg m.regs a) c ≡ n → Leads m (with_reg m rd n)
+shift m o rd a c n h e = leads m (with_reg m rd n) (Shift o rd a c) h (ap (λ v. (None, with_reg m rd v)) e)
+
+pub addi : (m : Machine) (rd a n : ℕ) (z : ℤ) → fetch m.text m.pc ≡ Some (OpImm Addi rd a z) → plus (reg m.regs a) z ≡ n → Leads m (with_reg m rd n)
+addi m rd a n z h e = op_imm m Addi rd a n z h e
+
+pub add : (m : Machine) (rd a b n : ℕ) → fetch m.text m.pc ≡ Some (Op Add rd a b) → (reg m.regs a + reg m.regs b) % 2 ^ 64 ≡ n → Leads m (with_reg m rd n)
+add m rd a b n h e = op m Add rd a b n h e
+
+pub loads : (m : Machine) (o : LoadOp) (rd a n address : ℕ) (z : ℤ) → fetch m.text m.pc ≡ Some (Load o rd a z) → plus (reg m.regs a) z ≡ address → load m (load_size o) address ≡ Some n → Leads m (with_reg m rd (load_result o n))
+loads m o rd a n address z h e l =
+    leads m (with_reg m rd (load_result o n)) (Load o rd a z) h
+    (ap (λ v. on_load m v (load m (load_size o) v) (λ n. with_reg m rd (load_result o n))) e
+    ∙ ap (λ v. on_load m address v (λ n. with_reg m rd (load_result o n))) l)
+
+pub ld : (m : Machine) (rd a n address : ℕ) (z : ℤ) → fetch m.text m.pc ≡ Some (Load Ld rd a z) → plus (reg m.regs a) z ≡ address → load m 8 address ≡ Some n → Leads m (with_reg m rd n)
+ld m rd a n address z h e l = loads m Ld rd a n address z h e l
+
+pub stores : (m : Machine) (window stack : List ℕ) (o : StoreOp) (src a n address : ℕ) (z : ℤ) → fetch m.text m.pc ≡ Some (Store o src a z) → plus (reg m.regs a) z ≡ address → reg m.regs src ≡ n → store m (store_size o) address n ≡ Some (window, stack) → Leads m (with_windows m window stack)
+stores m window stack o src a n address z h e f l =
+    leads m (with_windows m window stack) (Store o src a z) h
+    (ap (λ v. on_store m v (store m (store_size o) v (reg m.regs src))) e
+    ∙ ap (λ v. on_store m address (store m (store_size o) address v)) f
+    ∙ ap (on_store m address) l)
+
+pub sd : (m : Machine) (window stack : List ℕ) (src a n address : ℕ) (z : ℤ) → fetch m.text m.pc ≡ Some (Store Sd src a z) → plus (reg m.regs a) z ≡ address → reg m.regs src ≡ n → store m 8 address n ≡ Some (window, stack) → Leads m (with_windows m window stack)
+sd m window stack src a n address z h e f l = stores m window stack Sd src a n address z h e f l
+
+pub branch_yes : (m : Machine) (o : BranchOp) (a b pc : ℕ) (z : ℤ) → fetch m.text m.pc ≡ Some (Branch o a b z) → is_taken o (reg m.regs a) (reg m.regs b) ≡ true → plus m.pc z ≡ pc → Leads m (jumped m pc)
+branch_yes m o a b pc z h t e =
+    leads m (jumped m pc) (Branch o a b z) h
+    (ap (λ c. (None, jumped m (cond c (plus m.pc z) (m.pc + 4)))) t
+    ∙ ap (λ p. (None, jumped m p)) e)
+
+pub branch_no : (m : Machine) (o : BranchOp) (a b : ℕ) (z : ℤ) → fetch m.text m.pc ≡ Some (Branch o a b z) → is_taken o (reg m.regs a) (reg m.regs b) ≡ false → Leads m (jumped m (m.pc + 4))
+branch_no m o a b z h t = leads m (jumped m (m.pc + 4)) (Branch o a b z) h (ap (λ c. (None, jumped m (cond c (plus m.pc z) (m.pc + 4)))) t)
+
+pub bgeu_yes : (m : Machine) (a b pc : ℕ) (z : ℤ) → fetch m.text m.pc ≡ Some (Branch Bgeu a b z) → reg m.regs b ≤ reg m.regs a → plus m.pc z ≡ pc → Leads m (jumped m pc)
+bgeu_yes m a b pc z h le e = let t : nat_le (reg m.regs b) (reg m.regs a) ≡ true = grind (arith, nat_tests) in branch_yes m Bgeu a b pc z h t e
+
+pub bgeu_no : (m : Machine) (a b : ℕ) (z : ℤ) → fetch m.text m.pc ≡ Some (Branch Bgeu a b z) → reg m.regs a < reg m.regs b → Leads m (jumped m (m.pc + 4))
+bgeu_no m a b z h lt = let t : nat_le (reg m.regs b) (reg m.regs a) ≡ false = grind (arith, nat_tests) in branch_no m Bgeu a b z h t
+
+pub jalr : (m : Machine) (rd a pc : ℕ) (z : ℤ) → fetch m.text m.pc ≡ Some (Jalr rd a z) → plus (reg m.regs a) z / 2 * 2 ≡ pc → Leads m (jumped (with_reg m rd (m.pc + 4)) pc)
+jalr m rd a pc z h e = leads m (jumped (with_reg m rd (m.pc + 4)) pc) (Jalr rd a z) h (ap (λ p. (None, jumped (with_reg m rd (m.pc + 4)) p)) e)
+
+pub jal : (m : Machine) (rd pc : ℕ) (z : ℤ) → fetch m.text m.pc ≡ Some (Jal rd z) → plus m.pc z ≡ pc → Leads m (jumped (with_reg m rd (m.pc + 4)) pc)
+jal m rd pc z h e = leads m (jumped (with_reg m rd (m.pc + 4)) pc) (Jal rd z) h (ap (λ p. (None, jumped (with_reg m rd (m.pc + 4)) p)) e)
+
+trap_test : (v : ℕ) → 1 ≤ v → v ≤ 6 → nat_le 1 v && nat_le v 6 ≡ true
+trap_test v h k = grind (arith, nat_tests)
+
+-- EBREAK traps with the number from 1 to 6 in x31
+pub trap : (m : Machine) (n : ℕ) → fetch m.text m.pc ≡ Some Ebreak → reg m.regs 31 ≡ n → 1 ≤ n → n ≤ 6 → run 1 m ≡ (Some (Trapped n), m)
+trap m n h e low high =
+    one m Ebreak h 0
+    ∙ ap (λ v. (Some (cond (nat_le 1 v && nat_le v 6) (Trapped v) (Fault m.pc)), m)) e
+    ∙ ap (λ b. (Some (cond b (Trapped n) (Fault m.pc)), m)) (trap_test n low high)

@@ -1,0 +1,11 @@
+//! The RISC-V instructions of RV64I with M: their words, and what a machine does with them.
+//!
+//! The encodings are those of "The RISC-V Instruction Set Manual, Volume I: Unprivileged Architecture".
+//! `specs/Encoding.antt` is the table of words, `specs/Machine.antt` the machine's step and its start.
+#![tactic(auto)]
+
+mod inst;
+mod stop;
+
+pub use inst::{BranchOp, ImmediateOp, Inst, LoadOp, RegisterOp, ShiftOp, StoreOp};
+pub use stop::Stop;
