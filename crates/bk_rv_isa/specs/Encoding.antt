@@ -1,6 +1,6 @@
 -- The instructions and their words: the formats, funct fields and opcodes of the RISC-V manual, and no other word.
 use Rattle.std.specs.Prelude.{ℕ, ℤ, pos, negsuc, ◌+◌, ◌*◌, ◌-◌, ◌/◌, ◌%◌, ◌^◌, Bool, true, false, nat_lt, ◌&&◌, ◌==◌, if◌then◌else◌, Option, Some, None, List, [], ◌∷◌, find, option_map}
-use Rattle.bk_num.specs.Word.{signed, residue}
+use Rattle.bk_num.specs.Word.{signed, residue, fits_signed}
 use Rattle.bk_rv_isa.specs.declared.inst.RegisterOp.{RegisterOp}
 use Rattle.bk_rv_isa.specs.declared.inst.RegisterOp.TheVariants.{Add, Sub, Sll, Slt, Sltu, Xor, Srl, Sra, Or, And, Mul, Mulh, Mulhsu, Mulhu, Div, Divu, Rem, Remu}
 use Rattle.bk_rv_isa.specs.declared.inst.ImmediateOp.{ImmediateOp}
@@ -119,28 +119,23 @@ branch_funct3 Bge = 5
 branch_funct3 Bltu = 6
 branch_funct3 Bgeu = 7
 
--- z is a number of w bits with its sign
-abbrev pub is_signed : ℕ → ℤ → Bool
-is_signed w (pos n) = nat_lt n (2 ^ (w - 1))
-is_signed w (negsuc n) = nat_lt n (2 ^ (w - 1))
-
 -- z is an even number of w bits with its sign
 abbrev pub is_even_signed : ℕ → ℤ → Bool
-is_even_signed w z = is_signed w z && residue w z % 2 == 0
+is_even_signed w z = fits_signed w z && residue w z % 2 == 0
 
 -- each field fits
 abbrev pub fits : Inst → Bool
 fits (Op op rd rs1 rs2) = nat_lt rd 32 && (nat_lt rs1 32 && nat_lt rs2 32)
-fits (OpImm op rd rs1 imm) = nat_lt rd 32 && (nat_lt rs1 32 && is_signed 12 imm)
+fits (OpImm op rd rs1 imm) = nat_lt rd 32 && (nat_lt rs1 32 && fits_signed 12 imm)
 fits (Shift op rd rs1 count) = nat_lt rd 32 && (nat_lt rs1 32 && nat_lt count 64)
-fits (Addiw rd rs1 imm) = nat_lt rd 32 && (nat_lt rs1 32 && is_signed 12 imm)
-fits (Load op rd base offset) = nat_lt rd 32 && (nat_lt base 32 && is_signed 12 offset)
-fits (Store op src base offset) = nat_lt src 32 && (nat_lt base 32 && is_signed 12 offset)
+fits (Addiw rd rs1 imm) = nat_lt rd 32 && (nat_lt rs1 32 && fits_signed 12 imm)
+fits (Load op rd base offset) = nat_lt rd 32 && (nat_lt base 32 && fits_signed 12 offset)
+fits (Store op src base offset) = nat_lt src 32 && (nat_lt base 32 && fits_signed 12 offset)
 fits (Branch op rs1 rs2 offset) = nat_lt rs1 32 && (nat_lt rs2 32 && is_even_signed 13 offset)
-fits (Lui rd imm) = nat_lt rd 32 && is_signed 20 imm
-fits (Auipc rd imm) = nat_lt rd 32 && is_signed 20 imm
+fits (Lui rd imm) = nat_lt rd 32 && fits_signed 20 imm
+fits (Auipc rd imm) = nat_lt rd 32 && fits_signed 20 imm
 fits (Jal rd offset) = nat_lt rd 32 && is_even_signed 21 offset
-fits (Jalr rd base offset) = nat_lt rd 32 && (nat_lt base 32 && is_signed 12 offset)
+fits (Jalr rd base offset) = nat_lt rd 32 && (nat_lt base 32 && fits_signed 12 offset)
 fits Ebreak = true
 
 -- the word whose fields are those of the instruction
@@ -224,18 +219,21 @@ op_imm n =
     if funct3 n % 4 == 1 then option_map (λ op. Shift op (rd n) (rs1 n) (count n)) (shift_op (funct3 n) (n / 2 ^ 26))
     else option_map (λ op. OpImm op (rd n) (rs1 n) (i_immediate n)) (immediate_op (funct3 n))
 
--- the instruction of a word, none for a word outside the table
-unfoldable pub decoding : ℕ → Option Inst
-decoding n =
-    if opcode n == 0x33 then option_map (λ op. Op op (rd n) (rs1 n) (rs2 n)) (register_op (funct3 n) (funct7 n))
-    else (if opcode n == 0x13 then op_imm n
-    else (if opcode n == 0x1b && funct3 n == 0 then Some (Addiw (rd n) (rs1 n) (i_immediate n))
-    else (if opcode n == 0x03 then option_map (λ op. Load op (rd n) (rs1 n) (i_immediate n)) (load_op (funct3 n))
-    else (if opcode n == 0x23 then option_map (λ op. Store op (rs2 n) (rs1 n) (s_immediate n)) (store_op (funct3 n))
-    else (if opcode n == 0x63 then option_map (λ op. Branch op (rs1 n) (rs2 n) (b_immediate n)) (branch_op (funct3 n))
-    else (if opcode n == 0x37 then Some (Lui (rd n) (u_immediate n))
-    else (if opcode n == 0x17 then Some (Auipc (rd n) (u_immediate n))
-    else (if opcode n == 0x6f then Some (Jal (rd n) (j_immediate n))
-    else (if opcode n == 0x67 && funct3 n == 0 then Some (Jalr (rd n) (rs1 n) (i_immediate n))
+-- the instruction of a word with this opcode, and that of a word; none for a word outside the table
+abbrev pub decoding_by : ℕ → ℕ → Option Inst
+decoding_by code n =
+    if code == 0x33 then option_map (λ op. Op op (rd n) (rs1 n) (rs2 n)) (register_op (funct3 n) (funct7 n))
+    else (if code == 0x13 then op_imm n
+    else (if code == 0x1b then (if funct3 n == 0 then Some (Addiw (rd n) (rs1 n) (i_immediate n)) else None)
+    else (if code == 0x03 then option_map (λ op. Load op (rd n) (rs1 n) (i_immediate n)) (load_op (funct3 n))
+    else (if code == 0x23 then option_map (λ op. Store op (rs2 n) (rs1 n) (s_immediate n)) (store_op (funct3 n))
+    else (if code == 0x63 then option_map (λ op. Branch op (rs1 n) (rs2 n) (b_immediate n)) (branch_op (funct3 n))
+    else (if code == 0x37 then Some (Lui (rd n) (u_immediate n))
+    else (if code == 0x17 then Some (Auipc (rd n) (u_immediate n))
+    else (if code == 0x6f then Some (Jal (rd n) (j_immediate n))
+    else (if code == 0x67 then (if funct3 n == 0 then Some (Jalr (rd n) (rs1 n) (i_immediate n)) else None)
     else (if n == 0x00100073 then Some Ebreak
     else None))))))))))
+
+unfoldable pub decoding : ℕ → Option Inst
+decoding n = decoding_by (opcode n) n

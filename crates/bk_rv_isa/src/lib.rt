@@ -4,8 +4,14 @@
 //! `specs/Encoding.antt` is the table of words, `specs/Machine.antt` the machine's step and its start.
 #![tactic(auto)]
 
+mod decoder;
+mod encoder;
 mod inst;
+mod laws;
 mod stop;
 
+pub use decoder::decode;
+pub use encoder::encode;
 pub use inst::{BranchOp, ImmediateOp, Inst, LoadOp, RegisterOp, ShiftOp, StoreOp};
+pub use laws::one_word_each;
 pub use stop::Stop;
