@@ -1,7 +1,7 @@
--- Counts of faults, and what an answer of `Failed` owes.
+-- Counts of calls and of faults, and what an answer of `Failed` owes.
 use Rattle.std.specs.Prelude.{ℕ, ◌+◌, ◌-◌, ◌^◌, ◌≤◌, min, Result, OnErr}
 
--- a count of 64 bits after one more fault: it stays at its greatest value
+-- a count of 64 bits after one more: it stays at its greatest value
 abbrev pub raised : ℕ → ℕ
 raised count = min (count + 1) (2 ^ 64 - 1)
 

@@ -2,14 +2,12 @@
 
 ghost use Rattle.std.specs.Prelude.{◌≡◌, ◌≤◌, ◌<◌, ◌+◌, ℕ, List, Option, IfSome, IfOk, OnOk, IsErrOf, length, vec_len};
 ghost use Rattle.std.specs.Io.{ReadsAtMost};
-ghost use Rattle.std.specs.Io.KnownBytes.{Consumes, IsAtEnd, ReadConsumes};
+ghost use Rattle.std.specs.Io.KnownBytes.{IsAtEnd, ReadConsumes};
 ghost use Rattle.bk_io.specs.Faults.{HasCause, Rose};
+ghost use Rattle.bk_io.specs.Reading.{TookAtMost, TookExactly};
 
+use crate::errors::{Failed, ReadError};
 use std::alloc::Global;
-
-/// A read or a write failed.
-#[derive(Clone, Copy, PartialEq, Eq, Debug)]
-pub struct Failed;
 
 /// Bytes that are read from the front.
 pub trait Source {
@@ -27,17 +25,6 @@ pub trait Source {
         ensures cause { HasCause (faults self.old) (faults self.new) result };
 }
 
-/// Why the bytes were not read.
-#[derive(Debug, Drop)]
-pub enum ReadError {
-    /// A read failed.
-    ReadFault,
-    /// The source gave more bytes than the limit.
-    TooLong,
-    /// Memory ran out.
-    Memory,
-}
-
 /// How many bytes one read of [`read_all`] asks for at most.
 const PIECE: usize = 4096;
 
@@ -49,26 +36,29 @@ pub fn read_all<S: Source>(
     source: &mut S,
     limit: usize,
 ) -> Result<Vec<u8>, ReadError>
-    ensures all { IfOk result (λ bytes. Consumes (S.left source.old) (S.left source.new) bytes.items) }
+    ensures all { IfOk result (λ bytes. IfSome (S.left source.old) (λ left. bytes.items ≡ left)) }
     ensures end { OnOk result (IsAtEnd (S.left source.new)) }
     ensures within { IfOk result (λ bytes. vec_len bytes ≤ limit) }
     ensures later { S.faults source.old ≤ S.faults source.new }
+
+    // Each error has its cause.
     ensures fault { IsErrOf result ReadError.ReadFault → Rose (S.faults source.old) (S.faults source.new) }
-    ensures too_long { IsErrOf result ReadError.TooLong → IfSome (S.left source.old) (λ bytes. limit < length bytes) }
+    ensures too_long { IsErrOf result ReadError.TooLong → IfSome (S.left source.old) (λ left. limit < length left) }
+
+    // What each error took from the source.
+    ensures at_fault { IsErrOf result ReadError.ReadFault → TookAtMost (S.left source.old) (S.left source.new) limit }
+    ensures at_too_long { IsErrOf result ReadError.TooLong → TookExactly (S.left source.old) (S.left source.new) (limit + 1) }
+    ensures at_memory { IsErrOf result ReadError.Memory → TookAtMost (S.left source.old) (S.left source.new) (limit + 1) }
 {
     let mut bytes = Vec::new(alloc);
     let mut piece = [0u8; PIECE];
     while bytes.len() <= limit {
         let room = (limit - bytes.len()).min(PIECE - 1) + 1;
-        match source.read(&mut piece[..room]) {
-            Err(Failed) => return Err(ReadError::ReadFault),
-            Ok(0) => return Ok(bytes),
-            Ok(count) => {
-                if bytes.extend_from_slice(&piece[..count]).is_err() {
-                    return Err(ReadError::Memory);
-                }
-            }
+        let count = source.read(&mut piece[..room])?;
+        if count == 0 {
+            return Ok(bytes);
         }
+        bytes.extend_from_slice(&piece[..count])?;
     }
     Err(ReadError::TooLong)
 }

@@ -5,7 +5,7 @@ ghost use Rattle.std.specs.Io.{WritesAtMost};
 ghost use Rattle.std.specs.Io.KnownBytes.{Appends, WriteAppends};
 ghost use Rattle.bk_io.specs.Faults.{HasCause};
 
-use crate::reading::Failed;
+use crate::errors::Failed;
 
 /// Bytes that are written at the end.
 pub trait Sink {
