@@ -1,0 +1,5 @@
+pub mod Narrow
+pub mod Meaning
+pub mod Code
+pub mod Runs
+pub mod Answer
