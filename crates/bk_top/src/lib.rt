@@ -1,0 +1,5 @@
+//! A package text read, compiled and written.
+#![tactic(auto)]
+
+pub mod narrow;
+pub mod text;
