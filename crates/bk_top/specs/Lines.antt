@@ -13,7 +13,7 @@ line_len text = position_or_len (λ c. c == 10) text
 
 -- how many spaces a line begins with
 abbrev pub spaces : List ℕ → ℕ
-spaces line = position_or_len (λ c. not (c == 32)) line
+spaces line = prefix_len (λ c. c == 32) line
 
 -- the line without them
 unfoldable pub unindented : List ℕ → List ℕ

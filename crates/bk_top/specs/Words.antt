@@ -14,10 +14,10 @@ after [] text = Some text
 after (c ∷ word) [] = None
 after (c ∷ word) (d ∷ text) = cond (c == d) (after word text) None
 
--- x, where no text is left
-abbrev pub at_end : {A : Type 0} → List ℕ → A → Option A
-at_end [] x = Some x
-at_end (c ∷ text) x = None
+-- what was read, where no text is left
+abbrev pub at_end : {A : Type 0} → List ℕ → Option A → Option A
+at_end [] read = read
+at_end (c ∷ text) read = None
 
 -- lower-case letters, digits and _
 abbrev pub is_name_byte : ℕ → Bool
@@ -30,7 +30,7 @@ IsName (c ∷ cs) = IsTrue (is_ascii_lowercase c) × AllByRecursion (λ d. IsTru
 
 -- how many bytes of names the text begins with
 abbrev pub name_len : List ℕ → ℕ
-name_len text = position_or_len (λ c. not (is_name_byte c)) text
+name_len text = prefix_len is_name_byte text
 
 -- the longest name at the front, and what stands behind it
 unfoldable pub name_at : List ℕ → Option (List ℕ × List ℕ)

@@ -6,7 +6,8 @@ ghost use Rattle.std.specs.Str.Parse.{digits_value, AllDigits};
 ghost use Rattle.bk_top.specs.Decimal.{digits_len, number_at};
 
 fn digits_len(text: &[u8]) -> usize
-    ensures { result ≡ digits_len text.now }
+    ensures value { result ≡ digits_len text.now }
+    ensures within { result ≤ length text.now }
 {
     text.iter().position(|byte| !byte.is_ascii_digit()).unwrap_or(text.len())
 }
@@ -23,6 +24,7 @@ fn value(digits: &[u8]) -> u32
     value
 }
 
+#[tactic(auto, unfolding(crate::specs::Decimal::number_at))]
 /// The number at the front of `text`, of at most nine digits and with no leading zero, and what stands behind it.
 pub fn number(text: &[u8]) -> Option<(u32, &[u8])>
     ensures { option_map (λ x. (x.0, x.1.now)) result ≡ number_at text.now }

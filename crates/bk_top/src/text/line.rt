@@ -1,17 +1,19 @@
 //! Lines, each after any number of spaces.
 
-ghost use Rattle.std.specs.Prelude.{◌≡◌};
+ghost use Rattle.std.specs.Prelude.{◌≡◌, ◌≤◌, length};
 ghost use Rattle.std.specs.Option.{option_map};
 ghost use Rattle.bk_top.specs.Lines.{lines, first_line, line_len, spaces};
 
 fn line_len(text: &[u8]) -> usize
-    ensures { result ≡ line_len text.now }
+    ensures value { result ≡ line_len text.now }
+    ensures within { result ≤ length text.now }
 {
     text.iter().position(|byte| *byte == b'\n').unwrap_or(text.len())
 }
 
 fn spaces(line: &[u8]) -> usize
-    ensures { result ≡ spaces line.now }
+    ensures value { result ≡ spaces line.now }
+    ensures within { result ≤ length line.now }
 {
     line.iter().position(|byte| *byte != b' ').unwrap_or(line.len())
 }
@@ -25,6 +27,6 @@ pub fn next_line(text: &[u8]) -> Option<(&[u8], &[u8])>
     }
     let end = line_len(text);
     let line = &text[..end];
-    let rest = if end < text.len() { &text[end + 1..] } else { &text[end..] };
+    let rest = &text[text.len().min(end + 1)..];
     Some((&line[spaces(line)..], rest))
 }
