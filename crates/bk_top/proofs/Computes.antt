@@ -1,5 +1,5 @@
 -- The code of each function computes its meaning where it stands.
-use Rattle.std.proofs.Common.{◌≡◌, ℕ, zero, suc, ◌+◌, ◌-◌, ◌*◌, ◌/◌, ◌%◌, ◌^◌, ◌<◌, ◌≤◌, List, [], ◌∷◌, ◌++◌, length, map, drop, ap, ◌∙◌, sym, subst, refl, arith, Option, Some, None, Bool, true, ℤ, pos, neg_ℤ, length-append, append_assoc}
+use Rattle.std.proofs.Common.{◌≡◌, ℕ, zero, suc, ◌+◌, ◌-◌, ◌*◌, ◌/◌, ◌%◌, ◌^◌, ◌<◌, ◌≤◌, List, [], ◌∷◌, ◌++◌, length, map, drop, All, ap, ◌∙◌, sym, subst, refl, arith, Option, Some, None, Bool, true, ℤ, pos, neg_ℤ, length-append, append_assoc}
 use Rattle.std.specs.Prelude.{slice_index, nat_lt}
 use Rattle.std.proofs.lemmas.Bool.Decides.{nat_tests}
 use Rattle.std.proofs.lemmas.List.{drop_at}
@@ -9,11 +9,11 @@ use Rattle.bk_rv_isa.specs.Encoding.{fits, is_signed, word, decoding}
 use Rattle.bk_rv_isa.specs.Machine.{Machine, HasAt, Begins, run, load, start, stack_top}
 use Rattle.bk_rv_isa.proofs.Steps.{has_front, has_back, has_words}
 use Rattle.bk_rv_isa.proofs.Words.{decode_word}
-use Rattle.bk_top.specs.declared.narrow.function.Value.{Value}
-use Rattle.bk_top.specs.declared.narrow.function.Value.TheVariants.{Argument, Sum}
+use Rattle.bk_top.specs.declared.narrow.package.Value.{Value}
+use Rattle.bk_top.specs.declared.narrow.package.Value.TheVariants.{Argument, Sum}
 use Rattle.bk_top.specs.Narrow.{Narrow, IsValue, AreValues, IsWellFormed}
 use Rattle.bk_top.specs.Meaning.{value_of, values_from, meaning}
-use Rattle.bk_top.specs.Code.{frame, entry, unit, units, ending, code_of, code, words, FitAll, AllWellFormed}
+use Rattle.bk_top.specs.Code.{frame, entry, unit, units, ending, code_of, code, words, FitAll}
 use Rattle.bk_top.specs.Runs.{AreWords, Computes, AllCompute}
 use Rattle.bk_top.proofs.Machine.{st}
 use Rattle.bk_top.proofs.Units.{units_run}
@@ -66,10 +66,10 @@ pub fit_code : (f : Narrow) → IsWellFormed f → FitAll (code f)
 fit_code f h =
     let size = frame f.values in
     let n = length f.parameters in
-    let many = h.many in
-    let few = h.few in
-    let within = h.result in
-    fit_append (entry size) (units size 0 f.values ++ ending size f.result n) (entry_fits size (omega arith)) (fit_append (units size 0 f.values) (ending size f.result n) (units_fit size 0 n f.values (omega arith) (omega arith) h.values) (ending_fits size f.result n (omega arith) (omega arith)))
+    let many = h.few_values in
+    let few = h.few_parameters in
+    let within = h.result_is_value in
+    fit_append (entry size) (units size 0 f.values ++ ending size f.result n) (entry_fits size (omega arith)) (fit_append (units size 0 f.values) (ending size f.result n) (units_fit size 0 n f.values (omega arith) (omega arith) h.values_follow) (ending_fits size f.result n (omega arith) (omega arith)))
 
 -- words of instructions that fit are decoded to them
 begins : (is : List Inst) (rest : List ℕ) → FitAll is → Begins (map word is ++ rest) is
@@ -84,9 +84,9 @@ computes pre post fun near ok =
     let f = frame vs in
     let pc = 65536 + 4 * length pre in
     let text = pre ++ (map word (code fun) ++ post) in
-    let many = ok.many in
-    let few = ok.few in
-    let within = ok.result in
+    let many = ok.few_values in
+    let few = ok.few_parameters in
+    let within = ok.result_is_value in
     let has : HasAt text pc (code fun) = has_words (code fun) text (map word (code fun) ++ post) (length pre) (drop_at pre (map word (code fun) ++ post) (length pre) refl) (begins (code fun) post (fit_code fun ok)) in
     let has_entry : HasAt text pc (entry f) = has_front (entry f) (units f 0 vs ++ ending f result n) text pc has in
     let has_rest : HasAt text (pc + 24) (units f 0 vs ++ ending f result n) = has_back (entry f) (units f 0 vs ++ ending f result n) text pc has in
@@ -97,7 +97,7 @@ computes pre post fun near ok =
           let base = stack_top - stack in
           let vals = values_from args [] vs in
           let r = enters text pc args stack f (omega arith) enough limit (omega arith) ws has_entry (omega arith) in
-          let ok' : AreValues (length args) 0 vs = subst (λ m. AreValues m 0 vs) (sym len) ok.values in
+          let ok' : AreValues (length args) 0 vs = subst (λ m. AreValues m 0 vs) (sym len) ok.values_follow in
           let u = units_run text base (stack_top - f) f args (omega arith) (omega arith) ws vs (pc + 24) 0 r.regs [] r.mem refl has_units ok' r.good r.holds (omega arith) in
           let he : HasAt text (pc + 24 + 4 * length (units f 0 vs)) (ending f result (length args)) = subst (λ m. HasAt text (pc + 24 + 4 * length (units f 0 vs)) (ending f result m)) (sym len) has_ending in
           let d = ends text base (pc + 24 + 4 * length (units f 0 vs)) (stack_top - f) f result (slice_index vals result) u.regs u.mem args vals (omega arith) he u.good u.holds (omega arith) (omega arith) (omega (arith, length-values args [] vs)) refl (values_below args [] vs ws (λ k. omega arith) result) in
@@ -111,7 +111,7 @@ length-map : (is : List Inst) → length (map word is) ≡ length is
 length-map [] = refl
 length-map (i ∷ is) = ap suc (length-map is)
 
-pub all_compute : (pre : List ℕ) (fs : List Narrow) → length pre + length (words fs) < 2 ^ 60 → AllWellFormed fs → AllCompute (pre ++ words fs) (65536 + 4 * length pre) fs
+pub all_compute : (pre : List ℕ) (fs : List Narrow) → length pre + length (words fs) < 2 ^ 60 → All IsWellFormed fs → AllCompute (pre ++ words fs) (65536 + 4 * length pre) fs
 all_compute pre [] l h = tt
 all_compute pre (f ∷ fs) l h =
     let w = map word (code f) in

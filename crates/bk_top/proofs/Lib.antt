@@ -1,3 +1,9 @@
+pub mod Digits
+pub mod Lines
+pub mod Names
+pub mod Rules
+pub mod Runs
+pub mod Words
 pub mod Complete
 pub mod Machine
 pub mod Slots

@@ -10,8 +10,8 @@ use Rattle.bk_rv_isa.specs.declared.inst.Inst.TheVariants.{Op, Load, Store}
 use Rattle.bk_rv_isa.specs.Bytes.{load_in, written}
 use Rattle.bk_rv_isa.specs.Machine.{Machine, HasAt, Leads, fetch, plus}
 use Rattle.bk_rv_isa.proofs.Steps.{stays, then, has_front, has_back, same_reg, other_reg}
-use Rattle.bk_top.specs.declared.narrow.function.Value.{Value}
-use Rattle.bk_top.specs.declared.narrow.function.Value.TheVariants.{Argument, Sum}
+use Rattle.bk_top.specs.declared.narrow.package.Value.{Value}
+use Rattle.bk_top.specs.declared.narrow.package.Value.TheVariants.{Argument, Sum}
 use Rattle.bk_top.specs.Narrow.{IsValue, AreValues}
 use Rattle.bk_top.specs.Meaning.{value_of, values_from}
 use Rattle.bk_top.specs.Code.{unit, units}

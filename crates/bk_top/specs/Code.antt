@@ -9,9 +9,9 @@ use Rattle.bk_rv_isa.specs.declared.inst.Inst.{Inst}
 use Rattle.bk_rv_isa.specs.declared.inst.Inst.TheVariants.{Op, OpImm, Load, Store, Branch, Jalr, Ebreak}
 use Rattle.bk_rv_isa.specs.Encoding.{word, fits}
 use Rattle.bk_rv_isa.specs.Bytes.{bytes}
-use Rattle.bk_top.specs.declared.narrow.function.Value.{Value}
-use Rattle.bk_top.specs.declared.narrow.function.Value.TheVariants.{Argument, Sum}
-use Rattle.bk_top.specs.Narrow.{Narrow, IsWellFormed}
+use Rattle.bk_top.specs.declared.narrow.package.Value.{Value}
+use Rattle.bk_top.specs.declared.narrow.package.Value.TheVariants.{Argument, Sum}
+use Rattle.bk_top.specs.Narrow.{Narrow}
 
 -- the frame's bytes: a word for each slot, the swap word and the return address
 abbrev pub frame : List Value → ℕ
@@ -72,7 +72,3 @@ image fs = little_endian (words fs)
 abbrev pub FitAll : List Inst → Type 0
 FitAll [] = Unit {0}
 FitAll (i ∷ is) = (fits i ≡ true) × FitAll is
-
-abbrev pub AllWellFormed : List Narrow → Type 0
-AllWellFormed [] = Unit {0}
-AllWellFormed (f ∷ fs) = IsWellFormed f × AllWellFormed fs

@@ -1,3 +1,6 @@
+pub mod Lines
+pub mod Words
+pub mod Decimal
 pub mod Narrow
 pub mod Meaning
 pub mod Code

@@ -1,7 +1,7 @@
 -- What a narrow function returns: the sum that its values spell, modulo 2^64.
 use Rattle.std.specs.Prelude.{ℕ, ◌+◌, ◌%◌, ◌^◌, List, [], ◌∷◌, ◌++◌, slice_index}
-use Rattle.bk_top.specs.declared.narrow.function.Value.{Value}
-use Rattle.bk_top.specs.declared.narrow.function.Value.TheVariants.{Argument, Sum}
+use Rattle.bk_top.specs.declared.narrow.package.Value.{Value}
+use Rattle.bk_top.specs.declared.narrow.package.Value.TheVariants.{Argument, Sum}
 use Rattle.bk_top.specs.Narrow.{Narrow}
 
 -- the number of one value, after the numbers of the values before it

@@ -1,8 +1,8 @@
-ghost use Rattle.std.specs.Prelude.{◌≡◌, ℕ, ◌+◌, ◌-◌, ◌*◌, ◌≤◌, ◌<◌, ◌++◌, [], ◌∷◌, length, map, ◌^◌, List, vec_len, OnOk, IfOk, IsTrue};
+ghost use Rattle.std.specs.Prelude.{◌≡◌, ℕ, ◌+◌, ◌-◌, ◌*◌, ◌≤◌, ◌<◌, ◌++◌, [], ◌∷◌, length, map, ◌^◌, List, vec_len, OnOk, IfOk, IsTrue, All};
 ghost use Rattle.bk_rv_isa.specs.Encoding.{fits, word};
 ghost use Rattle.bk_rv_isa.specs.Bytes.{bytes};
 ghost use Rattle.bk_top.specs.Narrow.{view, IsWellFormed};
-ghost use Rattle.bk_top.specs.Code.{frame, entry, unit, units, ending, code, words, image, little_endian, FitAll, AllWellFormed};
+ghost use Rattle.bk_top.specs.Code.{frame, entry, unit, units, ending, code, words, image, little_endian, FitAll};
 
 use crate::narrow::{Function, Value};
 use bk_rv_isa::{BranchOp, ImmediateOp, Inst, LoadOp, RegisterOp, StoreOp, encode};
@@ -109,7 +109,7 @@ fn put_words(out: &mut Vec<u8>, code: &[Inst]) -> Result<(), AllocError>
 
 /// The image of a package's functions: their words one behind the other, the low byte first.
 pub fn image(alloc: Global, functions: &[Function]) -> Result<Vec<u8>, AllocError>
-    requires { AllWellFormed (map view functions.now) }
+    requires { All IsWellFormed (map view functions.now) }
     ensures { IfOk result (λ bytes. bytes.items ≡ image (map view functions.now)) }
 {
     let mut out = Vec::new(alloc);

@@ -5,5 +5,6 @@ mod emit;
 mod narrow;
 mod program;
 mod refusal;
+mod text;
 
 pub use program::backend;
