@@ -1,2 +1,5 @@
+pub mod Rows
+pub mod Words
+pub mod Back
 pub mod Memory
 pub mod Steps
