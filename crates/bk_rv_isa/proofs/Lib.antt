@@ -3,3 +3,4 @@ pub mod Words
 pub mod Back
 pub mod Memory
 pub mod Steps
+pub mod Start
