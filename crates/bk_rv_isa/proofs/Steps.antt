@@ -1,6 +1,6 @@
 -- How the machine goes on: runs in sequence, code in the text, and what each instruction does.
-use Rattle.std.proofs.Common.{◌≡◌, ℕ, zero, suc, ◌+◌, ◌-◌, ◌*◌, ◌/◌, ◌%◌, ◌^◌, ◌<◌, ◌≤◌, ◌≢◌, List, [], ◌∷◌, ◌++◌, length, drop, ap, ◌∙◌, sym, subst, refl, arith, Option, Some, None, Bool, true, false, cond, ℤ, pos, get_or}
-use Rattle.std.specs.Prelude.{slice_get, slice_index, slice_set, ◌==◌, nat_le, ◌&&◌, not}
+use Rattle.std.proofs.Common.{◌≡◌, ℕ, zero, suc, ◌+◌, ◌-◌, ◌*◌, ◌/◌, ◌%◌, ◌^◌, ◌<◌, ◌≤◌, ◌≢◌, List, [], ◌∷◌, ◌++◌, length, drop, ap, ◌∙◌, sym, subst, refl, arith, Option, Some, None, Bool, true, false, cond, ℤ, pos, get_or, inl, inr}
+use Rattle.std.specs.Prelude.{slice_get, slice_index, slice_index_or, slice_set, map, ◌==◌, nat_le, ◌&&◌, not}
 use Rattle.std.proofs.lemmas.Bool.Decides.{nat_tests}
 use Rattle.std.proofs.lemmas.List.{get_or-set_same, get_or-set_other}
 use Rattle.bk_rv_isa.specs.declared.inst.RegisterOp.{RegisterOp}
@@ -18,7 +18,9 @@ use Rattle.bk_rv_isa.specs.declared.inst.Inst.{Inst}
 use Rattle.bk_rv_isa.specs.declared.inst.Inst.TheVariants.{Op, OpImm, Shift, Addiw, Load, Store, Branch, Lui, Auipc, Jal, Jalr, Ebreak}
 use Rattle.bk_rv_isa.specs.declared.stop.Stop.{Stop}
 use Rattle.bk_rv_isa.specs.declared.stop.Stop.TheVariants.{Returned, Trapped, Fault}
-use Rattle.bk_rv_isa.specs.Encoding.{decoding}
+use Rattle.bk_rv_isa.specs.Encoding.{decoding, fits, word}
+use Rattle.bk_rv_isa.proofs.Rows.{chosen}
+use Rattle.bk_rv_isa.proofs.Words.{decode_word}
 use Rattle.bk_rv_isa.specs.Machine.{Machine, Gives, text_base, halt, reg, put, plus, extended, decoded, fetch, load, store, jumped, with_reg, with_windows, register_result, immediate_result, shift_result, load_size, load_result, store_size, is_taken, on_load, on_store, act, act_if, step, go_on, run, HasAt, Begins, Leads}
 
 -- runs
@@ -72,6 +74,11 @@ has_words (i ∷ is) text (w ∷ ws) k e h =
 
 pub has_dropped : (is : List Inst) (text : List ℕ) (k : ℕ) → Begins (drop k text) is → HasAt text (65536 + 4 * k) is
 has_dropped is text k h = has_words is text (drop k text) k refl h
+
+-- the words of instructions whose fields fit begin with these instructions
+pub begins_words : (is : List Inst) (rest : List ℕ) → ((k : ℕ) → k < length is → fits (slice_index_or is k Ebreak) ≡ true) → Begins (map word is ++ rest) is
+begins_words [] rest h = tt
+begins_words (i ∷ is) rest h = (decode_word i (h 0 (omega arith)), begins_words is rest (λ k lt. h (suc k) (omega arith)))
 
 -- registers
 
@@ -163,3 +170,44 @@ trap m n h e low high =
     one m Ebreak h 0
     ∙ ap (λ v. (Some (cond (nat_le 1 v && nat_le v 6) (Trapped v) (Fault m.pc)), m)) e
     ∙ ap (λ b. (Some (cond b (Trapped n) (Fault m.pc)), m)) (trap_test n low high)
+
+-- a stop changes nothing
+
+goes_on : (next m m' : Machine) (stop : Stop) (g : Gives) → g ≡ (None, next) → g ≡ (Some stop, m') → m' ≡ m
+goes_on next m m' stop g e h = let none : None ≡ Some stop = ap (λ (q : Gives). q.0) (sym e ∙ h) in cc
+
+halts : (m m' : Machine) (s stop : Stop) (g : Gives) → g ≡ (Some s, m) → g ≡ (Some stop, m') → m' ≡ m
+halts m m' s stop g e h = ap (λ (q : Gives). q.1) (sym h ∙ e)
+
+load_stops : (o : Option ℕ) (m m' : Machine) (address : ℕ) (after : ℕ → Machine) (stop : Stop) → on_load m address o after ≡ (Some stop, m') → m' ≡ m
+load_stops None m m' address after stop h = halts m m' (Fault address) stop _ refl h
+load_stops (Some n) m m' address after stop h = goes_on (after n) m m' stop _ refl h
+
+store_stops : (o : Option (List ℕ × List ℕ)) (m m' : Machine) (address : ℕ) (stop : Stop) → on_store m address o ≡ (Some stop, m') → m' ≡ m
+store_stops None m m' address stop h = halts m m' (Fault address) stop _ refl h
+store_stops (Some w) m m' address stop h = goes_on (with_windows m w.0 w.1) m m' stop _ refl h
+
+pub act_stops : (i : Inst) (m m' : Machine) (stop : Stop) → act i m ≡ (Some stop, m') → m' ≡ m
+act_stops (Op o rd a b) m m' stop h = goes_on _ m m' stop _ refl h
+act_stops (OpImm o rd a z) m m' stop h = goes_on _ m m' stop _ refl h
+act_stops (Shift o rd a c) m m' stop h = goes_on _ m m' stop _ refl h
+act_stops (Addiw rd a z) m m' stop h = goes_on _ m m' stop _ refl h
+act_stops (Load o rd a z) m m' stop h = load_stops (load m (load_size o) (plus (reg m.regs a) z)) m m' (plus (reg m.regs a) z) (λ n. with_reg m rd (load_result o n)) stop h
+act_stops (Store o src a z) m m' stop h = store_stops (store m (store_size o) (plus (reg m.regs a) z) (reg m.regs src)) m m' (plus (reg m.regs a) z) stop h
+act_stops (Branch o a b z) m m' stop h = goes_on _ m m' stop _ refl h
+act_stops (Lui rd z) m m' stop h = goes_on _ m m' stop _ refl h
+act_stops (Auipc rd z) m m' stop h = goes_on _ m m' stop _ refl h
+act_stops (Jal rd z) m m' stop h = goes_on _ m m' stop _ refl h
+act_stops (Jalr rd a z) m m' stop h = goes_on _ m m' stop _ refl h
+act_stops Ebreak m m' stop h = halts m m' _ stop _ refl h
+
+step_on : (o : Option Inst) (m m' : Machine) (stop : Stop) → act_if o m ≡ (Some stop, m') → m' ≡ m
+step_on None m m' stop h = halts m m' (Fault m.pc) stop _ refl h
+step_on (Some i) m m' stop h = act_stops i m m' stop h
+
+pub step_stops : (m m' : Machine) (stop : Stop) → step m ≡ (Some stop, m') → m' ≡ m
+step_stops m m' stop h =
+    elim (chosen (m.pc == halt) (Some Returned, m) (act_if (fetch m.text m.pc) m) (Some stop, m') h) [
+      inl p ↦ halts m m' Returned stop _ refl p.1
+      | inr p ↦ step_on (fetch m.text m.pc) m m' stop p.1
+    ]

@@ -232,7 +232,7 @@ decoding_by code n =
     else (if code == 0x17 then Some (Auipc (rd n) (u_immediate n))
     else (if code == 0x6f then Some (Jal (rd n) (j_immediate n))
     else (if code == 0x67 then (if funct3 n == 0 then Some (Jalr (rd n) (rs1 n) (i_immediate n)) else None)
-    else (if n == 0x00100073 then Some Ebreak
+    else (if code == 0x73 then (if n == 0x00100073 then Some Ebreak else None)
     else None))))))))))
 
 unfoldable pub decoding : ℕ → Option Inst

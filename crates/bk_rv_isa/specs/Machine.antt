@@ -1,7 +1,7 @@
 -- The machine, its step and its start.
 use Rattle.std.specs.Prelude.{◌≡◌, ◌≤◌, ℕ, zero, suc, ℤ, pos, List, [], ◌∷◌, ◌++◌, length, ◌+◌, ◌*◌, ◌-◌, ◌/◌, ◌%◌, ◌^◌, ◌*ℤ◌, ◌-ℤ◌, Bool, true, false, not, nat_lt, nat_le, int_lt, ◌&&◌, ◌==◌, if◌then◌else◌, Option, Some, None, slice_get, slice_index, slice_set, replicate, bit_and, bit_or, bit_xor, int_div, int_rem}
 use Rattle.std.specs.Int.{int_div_euclid}
-use Rattle.bk_num.specs.Word.{signed, residue}
+use Rattle.bk_num.specs.Word.{signed, residue, high_half}
 use Rattle.bk_rv_isa.specs.declared.inst.RegisterOp.{RegisterOp}
 use Rattle.bk_rv_isa.specs.declared.inst.RegisterOp.TheVariants.{Add, Sub, Sll, Slt, Sltu, Xor, Srl, Sra, Or, And, Mul, Mulh, Mulhsu, Mulhu, Div, Divu, Rem, Remu}
 use Rattle.bk_rv_isa.specs.declared.inst.ImmediateOp.{ImmediateOp}
@@ -112,7 +112,8 @@ with_reg m k n = record { pc = m.pc + 4; regs = put m.regs k n; text = m.text; p
 abbrev pub with_windows : Machine → List ℕ → List ℕ → Machine
 with_windows m window stack = record { pc = m.pc + 4; regs = m.regs; text = m.text; pool = m.pool; window = window; stack = stack; bottom = m.bottom }
 
--- what an operation gives
+-- what an operation gives: sums, shifts by the low six bits of the count, comparisons, products, and the quotients and
+-- remainders of the manual, where a division by zero gives all ones and leaves the dividend
 abbrev pub register_result : RegisterOp → ℕ → ℕ → ℕ
 register_result Add x y = (x + y) % 2 ^ 64
 register_result Sub x y = residue 64 (pos x -ℤ pos y)
@@ -120,18 +121,18 @@ register_result Sll x y = x * 2 ^ (y % 64) % 2 ^ 64
 register_result Slt x y = flag (int_lt (signed 64 x) (signed 64 y))
 register_result Sltu x y = flag (nat_lt x y)
 register_result Xor x y = bit_xor x y
-register_result Srl x y = x / 2 ^ (y % 64)
+register_result Srl x y = x % 2 ^ 64 / 2 ^ (y % 64)
 register_result Sra x y = residue 64 (int_div_euclid (signed 64 x) (pos (2 ^ (y % 64))))
 register_result Or x y = bit_or x y
 register_result And x y = bit_and x y
 register_result Mul x y = x * y % 2 ^ 64
-register_result Mulh x y = residue 64 (int_div_euclid (signed 64 x *ℤ signed 64 y) (pos (2 ^ 64)))
+register_result Mulh x y = high_half 64 x y true
 register_result Mulhsu x y = residue 64 (int_div_euclid (signed 64 x *ℤ pos y) (pos (2 ^ 64)))
-register_result Mulhu x y = x * y / 2 ^ 64
-register_result Div x y = if y == 0 then 2 ^ 64 - 1 else residue 64 (int_div (signed 64 x) (signed 64 y))
-register_result Divu x y = if y == 0 then 2 ^ 64 - 1 else x / y
-register_result Rem x y = if y == 0 then x else residue 64 (int_rem (signed 64 x) (signed 64 y))
-register_result Remu x y = if y == 0 then x else x % y
+register_result Mulhu x y = high_half 64 x y false
+register_result Div x y = if y % 2 ^ 64 == 0 then 2 ^ 64 - 1 else residue 64 (int_div (signed 64 x) (signed 64 y))
+register_result Divu x y = if y % 2 ^ 64 == 0 then 2 ^ 64 - 1 else x % 2 ^ 64 / (y % 2 ^ 64)
+register_result Rem x y = if y % 2 ^ 64 == 0 then x % 2 ^ 64 else residue 64 (int_rem (signed 64 x) (signed 64 y))
+register_result Remu x y = if y % 2 ^ 64 == 0 then x % 2 ^ 64 else x % 2 ^ 64 % (y % 2 ^ 64)
 
 abbrev pub immediate_result : ImmediateOp → ℕ → ℤ → ℕ
 immediate_result Addi x imm = plus x imm
@@ -143,7 +144,7 @@ immediate_result Andi x imm = bit_and x (residue 64 imm)
 
 abbrev pub shift_result : ShiftOp → ℕ → ℕ → ℕ
 shift_result Slli x count = x * 2 ^ count % 2 ^ 64
-shift_result Srli x count = x / 2 ^ count
+shift_result Srli x count = x % 2 ^ 64 / 2 ^ count
 shift_result Srai x count = residue 64 (int_div_euclid (signed 64 x) (pos (2 ^ count)))
 
 -- the bytes of an access, and the register that a loaded number gives

@@ -1,5 +1,5 @@
 ghost use Rattle.std.specs.Prelude.{◌≡◌, ◌↔◌, ◌<◌, ◌%◌, ◌/◌, ◌^◌, Some};
-ghost use Rattle.bk_rv_isa.specs.Encoding.{opcode, funct3, funct7, rd, rs1, rs2, count, i_immediate, s_immediate, b_immediate, u_immediate, j_immediate, register_op, immediate_op, shift_op, load_op, store_op, branch_op, op_imm, encoding, decoding};
+ghost use Rattle.bk_rv_isa.specs.Encoding.{funct3, rd, rs1, rs2, i_immediate, s_immediate, b_immediate, u_immediate, j_immediate, register_op, immediate_op, shift_op, load_op, store_op, branch_op, op_imm, encoding, decoding_by, decoding};
 
 use crate::inst::{BranchOp, ImmediateOp, Inst, LoadOp, RegisterOp, ShiftOp, StoreOp};
 use bk_num::sext;
@@ -172,13 +172,11 @@ fn op_imm(word: u32) -> Option<Inst>
     }
 }
 
-/// The instruction of a word, none exactly for a word outside the table.
-#[tactic(auto, unfolding(crate::specs::Encoding::decoding))]
-pub fn decode(word: u32) -> Option<Inst>
-    ensures value { result ≡ decoding word }
-    ensures inverse { (i : Inst) → result ≡ Some i ↔ encoding i ≡ Some word }
+// The instruction of a word with this opcode.
+fn by_opcode(opcode: u32, word: u32) -> Option<Inst>
+    ensures { result ≡ decoding_by opcode word }
 {
-    match word % 128 {
+    match opcode {
         0x33 => {
             let op = register_op(funct3(word), word >> 25)?;
             Some(Inst::Op(op, rd(word), rs1(word), rs2(word)))
@@ -201,7 +199,16 @@ pub fn decode(word: u32) -> Option<Inst>
         0x17 => Some(Inst::Auipc(rd(word), u_immediate(word))),
         0x6f => Some(Inst::Jal(rd(word), j_immediate(word))),
         0x67 if funct3(word) == 0 => Some(Inst::Jalr(rd(word), rs1(word), i_immediate(word))),
-        _ if word == 0x0010_0073 => Some(Inst::Ebreak),
+        0x73 if word == 0x0010_0073 => Some(Inst::Ebreak),
         _ => None,
     }
+}
+
+/// The instruction of a word, none exactly for a word outside the table.
+#[tactic(auto, unfolding(crate::specs::Encoding::decoding))]
+pub fn decode(word: u32) -> Option<Inst>
+    ensures value { result ≡ decoding word }
+    ensures inverse { (i : Inst) → result ≡ Some i ↔ encoding i ≡ Some word }
+{
+    by_opcode(word % 128, word)
 }
