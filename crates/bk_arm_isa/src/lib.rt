@@ -9,6 +9,8 @@ ghost use Rattle.std.specs.Prelude.{◌≡◌, ◌↔◌};
 ghost use Rattle.bk_arm_isa.specs.Encoding.{encoding};
 
 mod read;
+#[cfg(test)]
+mod tests;
 mod write;
 
 /// The condition field of an instruction (section A8.3).
