@@ -7,6 +7,9 @@ ghost use Rattle.std.specs.Prelude.{◌≡◌, ◌*◌, ◌/◌, ◌%◌, ◌^�
 ghost use Rattle.std.specs.Int.{int_div_euclid};
 ghost use Rattle.bk_num.specs.Word.{signed, residue, rotated, high_half};
 
+#[cfg(test)]
+mod tests;
+
 /// The number below 2^w that is congruent to `n`.
 pub fn trunc(w: u32, n: u64) -> u64
     requires { (1 ≤ w) × (w ≤ 64) }

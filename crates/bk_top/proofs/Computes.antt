@@ -3,9 +3,13 @@ use Rattle.std.proofs.Common.{◌≡◌, ℕ, zero, suc, ◌+◌, ◌-◌, ◌*�
 use Rattle.std.specs.Prelude.{slice_index, nat_lt}
 use Rattle.std.proofs.lemmas.Bool.Decides.{nat_tests}
 use Rattle.std.proofs.lemmas.List.{drop_at}
+use Rattle.std.proofs.lemmas.List.Elements.{All-head, All-tail}
 use Rattle.bk_rv_isa.specs.declared.inst.Inst.{Inst}
 use Rattle.bk_rv_isa.specs.declared.stop.Stop.TheVariants.{Returned, Trapped}
-use Rattle.bk_rv_isa.specs.Encoding.{fits, is_signed, word, decoding}
+use Rattle.bk_rv_isa.specs.Encoding.{fits, word, decoding}
+use Rattle.bk_num.specs.Word.{fits_signed}
+use Rattle.bk_rv_isa.specs.Bytes.{bytes}
+use Rattle.bk_rv_isa.proofs.Memory.{length-bytes}
 use Rattle.bk_rv_isa.specs.Machine.{Machine, HasAt, Begins, run, load, start, stack_top}
 use Rattle.bk_rv_isa.proofs.Steps.{has_front, has_back, has_words}
 use Rattle.bk_rv_isa.proofs.Words.{decode_word}
@@ -13,7 +17,7 @@ use Rattle.bk_top.specs.declared.narrow.package.Value.{Value}
 use Rattle.bk_top.specs.declared.narrow.package.Value.TheVariants.{Argument, Sum}
 use Rattle.bk_top.specs.Narrow.{Narrow, IsValue, AreValues, IsWellFormed}
 use Rattle.bk_top.specs.Meaning.{value_of, values_from, meaning}
-use Rattle.bk_top.specs.Code.{frame, entry, unit, units, ending, code_of, code, words, FitAll}
+use Rattle.bk_top.specs.Code.{frame, entry, unit, units, ending, code_of, code, words, image, little_endian, FitAll}
 use Rattle.bk_top.specs.Runs.{AreWords, Computes, AllCompute}
 use Rattle.bk_top.proofs.Machine.{st}
 use Rattle.bk_top.proofs.Units.{units_run}
@@ -22,7 +26,7 @@ use Rattle.bk_top.proofs.Whole.{enters, refuses, ends}
 lt_test : (a b : ℕ) → a < b → nat_lt a b ≡ true
 lt_test a b h = grind (arith, nat_tests)
 
-neg_fits : (f : ℕ) → f ≤ 2048 → is_signed 12 (neg_ℤ (pos f)) ≡ true
+neg_fits : (f : ℕ) → f ≤ 2048 → fits_signed 12 (neg_ℤ (pos f)) ≡ true
 neg_fits zero h = refl
 neg_fits (suc n) h = lt_test n 2048 (omega arith)
 
@@ -76,7 +80,7 @@ begins : (is : List Inst) (rest : List ℕ) → FitAll is → Begins (map word i
 begins [] rest h = tt
 begins (i ∷ is) rest h = (decode_word i h.0, begins is rest h.1)
 
-pub computes : (pre post : List ℕ) (f : Narrow) → length pre < 2 ^ 60 → IsWellFormed f → Computes (pre ++ (map word (code f) ++ post)) (65536 + 4 * length pre) f
+pub computes : (pre post : List ℕ) (f : Narrow) → length pre < 2 ^ 61 → IsWellFormed f → Computes (pre ++ (map word (code f) ++ post)) (65536 + 4 * length pre) f
 computes pre post fun near ok =
     let vs = fun.values in
     let result = fun.result in
@@ -111,14 +115,25 @@ length-map : (is : List Inst) → length (map word is) ≡ length is
 length-map [] = refl
 length-map (i ∷ is) = ap suc (length-map is)
 
-pub all_compute : (pre : List ℕ) (fs : List Narrow) → length pre + length (words fs) < 2 ^ 60 → All IsWellFormed fs → AllCompute (pre ++ words fs) (65536 + 4 * length pre) fs
+pub all_compute : (pre : List ℕ) (fs : List Narrow) → length pre + length (words fs) < 2 ^ 61 → All IsWellFormed fs → AllCompute (pre ++ words fs) (65536 + 4 * length pre) fs
 all_compute pre [] l h = tt
 all_compute pre (f ∷ fs) l h =
     let w = map word (code f) in
     let len = length-append w (words fs) in
     let next : length (pre ++ w) ≡ length pre + length w = length-append pre w in
     let count : length w ≡ length (code f) = length-map (code f) in
-    let rest = all_compute (pre ++ w) fs (omega arith) h.1 in
+    let rest = all_compute (pre ++ w) fs (omega arith) (All-tail IsWellFormed f fs h) in
     let p : 65536 + 4 * length (pre ++ w) ≡ 65536 + 4 * length pre + 4 * length (code f) = omega arith in
-    (computes pre (words fs) f (omega arith) h.0,
+    (computes pre (words fs) f (omega arith) (All-head IsWellFormed f fs h),
     subst (λ t. AllCompute t (65536 + 4 * length pre + 4 * length (code f)) fs) (append_assoc pre w (words fs)) (subst (λ q. AllCompute ((pre ++ w) ++ words fs) q fs) p rest))
+
+length-little_endian : (ws : List ℕ) → length (little_endian ws) ≡ 4 * length ws
+unfolding little_endian
+length-little_endian [] = refl
+length-little_endian (w ∷ ws) = omega (arith, length-append (bytes 4 w) (little_endian ws), length-bytes 4 w, length-little_endian ws)
+
+-- an image that fits in memory runs
+pub image_computes : (fs : List Narrow) (out : List ℕ) → out ≡ image fs → length out < 2 ^ 63 → All IsWellFormed fs → AllCompute (words fs) 65536 fs
+image_computes fs out e small h =
+    let l : length out ≡ 4 * length (words fs) = ap length e ∙ length-little_endian (words fs) in
+    all_compute [] fs (omega arith) h

@@ -12,3 +12,4 @@ pub mod Units
 pub mod Whole
 pub mod Bytes
 pub mod Computes
+pub mod Emitted

@@ -26,7 +26,7 @@ abbrev start_mem : List ℕ → ℕ → List ℕ
 start_mem args stack = replicate stack 0 ++ (argument_words args ++ replicate 8 0)
 
 -- the frame is made, and nothing is in the slots
-pub enters : (text : List ℕ) (pc : ℕ) (args : List ℕ) (stack f : ℕ) → 16 ≤ f → f ≤ stack → stack ≤ 1048576 → length args ≤ 1000 → AreWords args → HasAt text pc (entry f) → pc < 2 ^ 63 → Reaches text (stack_top - stack) (start text [] [] pc args 1 stack) (pc + 24) (stack_top - f) f args []
+pub enters : (text : List ℕ) (pc : ℕ) (args : List ℕ) (stack f : ℕ) → 16 ≤ f → f ≤ stack → stack ≤ 1048576 → length args ≤ 1000 → AreWords args → HasAt text pc (entry f) → pc < 2 ^ 63 + 131072 → Reaches text (stack_top - stack) (start text [] [] pc args 1 stack) (pc + 24) (stack_top - f) f args []
 enters text pc args stack f positive fits limit few ws has low =
     let base = stack_top - stack in
     let high : 67108864 ≤ base = omega arith in
@@ -68,7 +68,7 @@ enters text pc args stack f positive fits limit few ws has low =
     }
 
 -- too large a frame
-pub refuses : (text : List ℕ) (pc : ℕ) (args : List ℕ) (stack f : ℕ) → stack < f → f ≤ 1048576 → stack ≤ 1048576 → HasAt text pc (entry f) → pc < 2 ^ 63 → (n : ℕ) × (m : Machine) × (run n (start text [] [] pc args 1 stack) ≡ (Some (Trapped 5), m))
+pub refuses : (text : List ℕ) (pc : ℕ) (args : List ℕ) (stack f : ℕ) → stack < f → f ≤ 1048576 → stack ≤ 1048576 → HasAt text pc (entry f) → pc < 2 ^ 63 + 131072 → (n : ℕ) × (m : Machine) × (run n (start text [] [] pc args 1 stack) ≡ (Some (Trapped 5), m))
 refuses text pc args stack f over small limit has low =
     let base = stack_top - stack in
     let high : 67108864 ≤ base = omega arith in

@@ -3,6 +3,9 @@ use Rattle.std.specs.Prelude.{◌≡◌, ℕ, ◌<◌, ◌≤◌, List, [], ◌�
 use Rattle.std.specs.Io.KnownBytes.{Appends, Keeps}
 use Rattle.bk_io.specs.Faults.{Rose}
 use Rattle.bk_top.specs.Narrow.{Narrow, IsNarrow}
+use Rattle.bk_rv_isa.specs.Machine.{text_base}
+use Rattle.bk_top.specs.Code.{words, image}
+use Rattle.bk_top.specs.Runs.{AllCompute}
 use Rattle.bk_top.specs.declared.refusal.Refusal.{Refusal}
 use Rattle.bk_top.specs.declared.refusal.Refusal.TheVariants.{Words, NotYet, ReadFault, WriteFault, Memory}
 
@@ -41,11 +44,13 @@ line Memory = codes "memory\n"
 abbrev pub AppendsFront : Option (List ℕ) → Option (List ℕ) → List ℕ → Type 0
 AppendsFront before now bytes = (n : ℕ) × (n ≤ length bytes) × Appends before now (take n bytes)
 
--- the bytes are the image of the functions that the text spells, and the machine computes on them what these mean
+-- The bytes are the image of the functions that the text spells; on its words the machine computes what each function means.
 pub record Translates (text bytes : List ℕ) : Type 0 where
   pub functions : List Narrow
+  pub within : length text ≤ 65536
   pub spelled : IsNarrow text functions
-  pub image : bytes ≡ bytes
+  pub image : bytes ≡ image functions
+  pub computes : AllCompute (words functions) text_base functions
 
 -- the output gained the image of the functions that the text spells
 pub record Compiled (text : List ℕ) (before now : Option (List ℕ)) : Type 0 where

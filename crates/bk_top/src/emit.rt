@@ -83,6 +83,7 @@ fn emit(alloc: Global, function: &Function) -> Result<Vec<Inst>, AllocError>
 }
 
 /// Adds an instruction's word, the low byte first.
+#[tactic(auto, using(crate::proofs::Bytes::four_bytes))]
 fn put_word(out: &mut Vec<u8>, inst: Inst) -> Result<(), AllocError>
     requires { IsTrue (fits inst) }
     ensures { OnOk result (out.new.items ≡ out.old.items ++ bytes 4 (word inst)) }
@@ -97,6 +98,7 @@ fn put_word(out: &mut Vec<u8>, inst: Inst) -> Result<(), AllocError>
 }
 
 /// Adds the words of the instructions.
+#[tactic(auto, unfolding(crate::specs::Code::little_endian))]
 fn put_words(out: &mut Vec<u8>, code: &[Inst]) -> Result<(), AllocError>
     requires { FitAll code.now }
     ensures { OnOk result (out.new.items ≡ out.old.items ++ little_endian (map word code.now)) }
@@ -108,6 +110,7 @@ fn put_words(out: &mut Vec<u8>, code: &[Inst]) -> Result<(), AllocError>
 }
 
 /// The image of a package's functions: their words one behind the other, the low byte first.
+#[tactic(auto, unfolding(crate::specs::Code::little_endian))]
 pub fn image(alloc: Global, functions: &[Function]) -> Result<Vec<u8>, AllocError>
     requires { All IsWellFormed (map view functions.now) }
     ensures { IfOk result (λ bytes. bytes.items ≡ image (map view functions.now)) }
