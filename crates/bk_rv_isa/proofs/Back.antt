@@ -1,26 +1,14 @@
 -- The instruction of a word has this word.
-use Rattle.std.proofs.Common.{◌≡◌, ℕ, ◌+◌, ◌-◌, ◌*◌, ◌/◌, ◌%◌, ◌^◌, ◌<◌, ◌≤◌, suc, ap, ◌∙◌, sym, subst, arith, refl, ℤ, pos, negsuc, Bool, true, false, Some, None, Option, cond, ◌⊎◌, inl, inr, ◌↔◌}
+use Rattle.std.proofs.Common.{◌≡◌, ℕ, ◌+◌, ◌*◌, ◌/◌, ◌%◌, ◌^◌, ◌<◌, ◌≤◌, ap, ◌∙◌, sym, subst, arith, refl, Bool, true, Some, None, Option, cond, inl, inr, ◌↔◌}
 use Rattle.std.specs.Prelude.{◌&&◌, nat_lt, ◌==◌, option_map}
 use Rattle.std.proofs.lemmas.Bool.Decides.{nat_tests}
 use Rattle.bk_num.specs.Word.{signed, residue, fits_signed}
-use Rattle.bk_num.proofs.Signs.{signed_residue, residue_signed, residue_below, signed_fits}
-use Rattle.bk_rv_isa.specs.declared.inst.RegisterOp.{RegisterOp}
-use Rattle.bk_rv_isa.specs.declared.inst.RegisterOp.TheVariants.{Add, Sub, Sll, Slt, Sltu, Xor, Srl, Sra, Or, And, Mul, Mulh, Mulhsu, Mulhu, Div, Divu, Rem, Remu}
-use Rattle.bk_rv_isa.specs.declared.inst.ImmediateOp.{ImmediateOp}
-use Rattle.bk_rv_isa.specs.declared.inst.ImmediateOp.TheVariants.{Addi, Slti, Sltiu, Xori, Ori, Andi}
-use Rattle.bk_rv_isa.specs.declared.inst.ShiftOp.{ShiftOp}
-use Rattle.bk_rv_isa.specs.declared.inst.ShiftOp.TheVariants.{Slli, Srli, Srai}
-use Rattle.bk_rv_isa.specs.declared.inst.LoadOp.{LoadOp}
-use Rattle.bk_rv_isa.specs.declared.inst.LoadOp.TheVariants.{Lb, Lh, Lw, Ld, Lbu, Lhu, Lwu}
-use Rattle.bk_rv_isa.specs.declared.inst.StoreOp.{StoreOp}
-use Rattle.bk_rv_isa.specs.declared.inst.StoreOp.TheVariants.{Sb, Sh, Sw, Sd}
-use Rattle.bk_rv_isa.specs.declared.inst.BranchOp.{BranchOp}
-use Rattle.bk_rv_isa.specs.declared.inst.BranchOp.TheVariants.{Beq, Bne, Blt, Bge, Bltu, Bgeu}
+use Rattle.bk_num.proofs.Signs.{residue_signed, signed_fits}
 use Rattle.bk_rv_isa.specs.declared.inst.Inst.{Inst}
 use Rattle.bk_rv_isa.specs.declared.inst.Inst.TheVariants.{Op, OpImm, Shift, Addiw, Load, Store, Branch, Lui, Auipc, Jal, Jalr, Ebreak}
-use Rattle.bk_rv_isa.specs.Encoding.{r_type, i_type, s_type, b_type, u_type, j_type, register_funct3, register_funct7, immediate_funct3, shift_funct3, shift_funct6, load_funct3, store_funct3, branch_funct3, is_even_signed, fits, word, encoding, opcode, funct3, funct7, rd, rs1, rs2, count, i_immediate, s_immediate, b_immediate, u_immediate, j_immediate, register_op, immediate_op, shift_op, load_op, store_op, branch_op, op_imm, decoding_by, decoding}
+use Rattle.bk_rv_isa.specs.Encoding.{r_type, i_type, s_type, b_type, u_type, j_type, register_funct3, register_funct7, immediate_funct3, shift_funct3, shift_funct6, load_funct3, store_funct3, branch_funct3, is_even_signed, fits, word, encoding, opcode, funct3, funct7, rd, rs1, rs2, count, i_immediate, s_immediate, b_immediate, u_immediate, j_immediate, register_op, immediate_op, shift_op, load_op, store_op, branch_op, decoding_by, decoding}
 use Rattle.bk_rv_isa.proofs.Rows.{chosen, eq_of, mapped, register_found, shift_found, immediate_found, load_found, store_found, branch_found}
-use Rattle.bk_rv_isa.proofs.Words.{encoding_back, three, less}
+use Rattle.bk_rv_isa.proofs.Words.{encoding_back}
 
 lt_test : (a b : ℕ) → a < b → nat_lt a b ≡ true
 lt_test a b h = grind (arith, nat_tests)
@@ -96,25 +84,25 @@ i_made i n code f3 lt c h f w =
 op_imm_back : (n : ℕ) (i : Inst) → n < 2 ^ 32 → opcode n ≡ 0x13 → decoding_by 0x13 n ≡ Some i → encoding i ≡ Some n
 op_imm_back n i lt c h =
     elim (chosen (funct3 n % 4 == 1) (option_map (λ op. Shift op (rd n) (rs1 n) (count n)) (shift_op (funct3 n) (n / 2 ^ 26))) (option_map (λ op. OpImm op (rd n) (rs1 n) (i_immediate n)) (immediate_op (funct3 n))) (Some i) h) [
-      inl p ↦ (
-        let m = mapped (λ op. Shift op (rd n) (rs1 n) (count n)) (shift_op (funct3 n) (n / 2 ^ 26)) i p.1 in
-        let f = shift_found (funct3 n) (n / 2 ^ 26) m.0 m.1 in
-        let imm : shift_funct6 m.0 * 2 ^ 6 + count n ≡ n / 2 ^ 20 = ap (λ k. k * 2 ^ 6 + count n) f.1 ∙ (omega arith) in
-        subst (λ i. encoding i ≡ Some n) m.2
-        (made (Shift m.0 (rd n) (rs1 n) (count n)) n (all_three _ _ _ (small (n / 2 ^ 7)) (small (n / 2 ^ 15)) (lt_test (count n) 64 (omega arith))) (i_back n 0x13 (shift_funct3 m.0) (shift_funct6 m.0 * 2 ^ 6 + count n) c f.0 imm)))
+      | inl p ↦ (
+          let m = mapped (λ op. Shift op (rd n) (rs1 n) (count n)) (shift_op (funct3 n) (n / 2 ^ 26)) i p.1 in
+          let f = shift_found (funct3 n) (n / 2 ^ 26) m.0 m.1 in
+          let imm : shift_funct6 m.0 * 2 ^ 6 + count n ≡ n / 2 ^ 20 = ap (λ k. k * 2 ^ 6 + count n) f.1 ∙ (omega arith) in
+          subst (λ i. encoding i ≡ Some n) m.2
+          (made (Shift m.0 (rd n) (rs1 n) (count n)) n (all_three _ _ _ (small (n / 2 ^ 7)) (small (n / 2 ^ 15)) (lt_test (count n) 64 (omega arith))) (i_back n 0x13 (shift_funct3 m.0) (shift_funct6 m.0 * 2 ^ 6 + count n) c f.0 imm)))
       | inr p ↦ (
-        let m = mapped (λ op. OpImm op (rd n) (rs1 n) (i_immediate n)) (immediate_op (funct3 n)) i p.1 in
-        let f = immediate_found (funct3 n) m.0 m.1 in
-        subst (λ i. encoding i ≡ Some n) m.2
-        (i_made (OpImm m.0 (rd n) (rs1 n) (i_immediate n)) n 0x13 (immediate_funct3 m.0) lt c f refl refl))
+          let m = mapped (λ op. OpImm op (rd n) (rs1 n) (i_immediate n)) (immediate_op (funct3 n)) i p.1 in
+          let f = immediate_found (funct3 n) m.0 m.1 in
+          subst (λ i. encoding i ≡ Some n) m.2
+          (i_made (OpImm m.0 (rd n) (rs1 n) (i_immediate n)) n 0x13 (immediate_funct3 m.0) lt c f refl refl))
     ]
 
 addiw_back : (n : ℕ) (i : Inst) → n < 2 ^ 32 → opcode n ≡ 0x1b → decoding_by 0x1b n ≡ Some i → encoding i ≡ Some n
 addiw_back n i lt c h =
     elim (chosen (funct3 n == 0) (Some (Addiw (rd n) (rs1 n) (i_immediate n))) None (Some i) h) [
-      inl p ↦ (
-        let e : Addiw (rd n) (rs1 n) (i_immediate n) ≡ i = let q = p.1 in cc in
-        subst (λ i. encoding i ≡ Some n) e (i_made (Addiw (rd n) (rs1 n) (i_immediate n)) n 0x1b 0 lt c (sym (eq_of (funct3 n) 0 p.0)) refl refl))
+      | inl p ↦ (
+          let e : Addiw (rd n) (rs1 n) (i_immediate n) ≡ i = let q = p.1 in cc in
+          subst (λ i. encoding i ≡ Some n) e (i_made (Addiw (rd n) (rs1 n) (i_immediate n)) n 0x1b 0 lt c (sym (eq_of (funct3 n) 0 p.0)) refl refl))
       | inr p ↦ (let q = p.1 in cc)
     ]
 
@@ -171,18 +159,18 @@ jal_back n i lt c h =
 jalr_back : (n : ℕ) (i : Inst) → n < 2 ^ 32 → opcode n ≡ 0x67 → decoding_by 0x67 n ≡ Some i → encoding i ≡ Some n
 jalr_back n i lt c h =
     elim (chosen (funct3 n == 0) (Some (Jalr (rd n) (rs1 n) (i_immediate n))) None (Some i) h) [
-      inl p ↦ (
-        let e : Jalr (rd n) (rs1 n) (i_immediate n) ≡ i = let q = p.1 in cc in
-        subst (λ i. encoding i ≡ Some n) e (i_made (Jalr (rd n) (rs1 n) (i_immediate n)) n 0x67 0 lt c (sym (eq_of (funct3 n) 0 p.0)) refl refl))
+      | inl p ↦ (
+          let e : Jalr (rd n) (rs1 n) (i_immediate n) ≡ i = let q = p.1 in cc in
+          subst (λ i. encoding i ≡ Some n) e (i_made (Jalr (rd n) (rs1 n) (i_immediate n)) n 0x67 0 lt c (sym (eq_of (funct3 n) 0 p.0)) refl refl))
       | inr p ↦ (let q = p.1 in cc)
     ]
 
 ebreak_back : (n : ℕ) (i : Inst) → n < 2 ^ 32 → opcode n ≡ 0x73 → decoding_by 0x73 n ≡ Some i → encoding i ≡ Some n
 ebreak_back n i lt c h =
     elim (chosen (n == 0x00100073) (Some Ebreak) None (Some i) h) [
-      inl p ↦ (
-        let e : Ebreak ≡ i = let q = p.1 in cc in
-        subst (λ i. encoding i ≡ Some n) e (ap Some (sym (eq_of n 0x00100073 p.0))))
+      | inl p ↦ (
+          let e : Ebreak ≡ i = let q = p.1 in cc in
+          subst (λ i. encoding i ≡ Some n) e (ap Some (sym (eq_of n 0x00100073 p.0))))
       | inr p ↦ (let q = p.1 in cc)
     ]
 
@@ -190,7 +178,7 @@ ebreak_back n i lt c h =
 by_opcode : (n code : ℕ) (rest : Option Inst) (i : Inst) → (opcode n ≡ code → decoding_by code n ≡ Some i → encoding i ≡ Some n) → (rest ≡ Some i → encoding i ≡ Some n) → cond (opcode n == code) (decoding_by code n) rest ≡ Some i → encoding i ≡ Some n
 by_opcode n code rest i f g h =
     elim (chosen (opcode n == code) (decoding_by code n) rest (Some i) h) [
-      inl p ↦ f (eq_of (opcode n) code p.0) p.1
+      | inl p ↦ f (eq_of (opcode n) code p.0) p.1
       | inr p ↦ g p.1
     ]
 

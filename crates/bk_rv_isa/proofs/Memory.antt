@@ -1,6 +1,5 @@
 -- What was written is read again, and the other bytes stay.
-use Rattle.std.proofs.Common.{◌≡◌, ℕ, zero, suc, ◌+◌, ◌-◌, ◌*◌, ◌/◌, ◌%◌, ◌^◌, ◌<◌, ◌≤◌, List, [], ◌∷◌, ◌++◌, length, take, drop, ap, ◌∙◌, sym, subst, refl, arith, Option, Some, None, Bool, true, false, cond, ◌⊎◌, inl, inr, append_assoc, length-append, length-drop}
-use Rattle.std.specs.Prelude.{nat_le, ◌&&◌}
+use Rattle.std.proofs.Common.{◌≡◌, ℕ, zero, suc, ◌+◌, ◌-◌, ◌*◌, ◌/◌, ◌%◌, ◌^◌, ◌<◌, ◌≤◌, List, ◌++◌, length, take, drop, ap, ◌∙◌, sym, refl, arith, Option, Some, None, true, false, cond, ◌⊎◌, inl, inr, append_assoc, length-append, length-drop}
 use Rattle.std.proofs.lemmas.List.{length-take-le, take_at, drop_at, take-append-le, drop-append-le, take-take, drop-take, drop-drop}
 use Rattle.std.proofs.lemmas.Bool.Decides.{nat_tests}
 use Rattle.bk_rv_isa.specs.Bytes.{number, bytes, is_within, load_in, store_in, written}

@@ -1,5 +1,5 @@
 -- A row is found by its funct fields, and what is found has them.
-use Rattle.std.proofs.Common.{◌≡◌, ℕ, ◌+◌, ◌*◌, ◌%◌, ◌^◌, ◌<◌, List, [], ◌∷◌, ap, ◌∙◌, sym, subst, arith, refl, Bool, true, false, Some, None, Option, cond, ◌⊎◌, inl, inr}
+use Rattle.std.proofs.Common.{◌≡◌, ℕ, ◌%◌, ◌<◌, List, [], ◌∷◌, subst, arith, refl, Bool, true, false, Some, None, Option, cond, ◌⊎◌, inl, inr}
 use Rattle.std.specs.Prelude.{◌&&◌, ◌==◌, find, option_map}
 use Rattle.std.proofs.lemmas.Bool.Decides.{nat_tests}
 use Rattle.bk_rv_isa.specs.declared.inst.RegisterOp.{RegisterOp}
@@ -35,7 +35,7 @@ found : {A : Type 0} (p : A → Bool) (xs : List A) (x : A) → find p xs ≡ So
 found p [] x h = cc
 found p (y ∷ ys) x h =
     elim (chosen (p y) (Some y) (find p ys) (Some x) h) [
-      inl q ↦ (let e : y ≡ x = let r = q.1 in cc in subst (λ z. p z ≡ true) e q.0)
+      | inl q ↦ (let e : y ≡ x = let r = q.1 in cc in subst (λ z. p z ≡ true) e q.0)
       | inr q ↦ found p ys x q.1
     ]
 

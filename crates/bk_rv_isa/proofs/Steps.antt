@@ -1,6 +1,6 @@
 -- How the machine goes on: runs in sequence, code in the text, and what each instruction does.
-use Rattle.std.proofs.Common.{◌≡◌, ℕ, zero, suc, ◌+◌, ◌-◌, ◌*◌, ◌/◌, ◌%◌, ◌^◌, ◌<◌, ◌≤◌, ◌≢◌, List, [], ◌∷◌, ◌++◌, length, drop, ap, ◌∙◌, sym, subst, refl, arith, Option, Some, None, Bool, true, false, cond, ℤ, pos, get_or, inl, inr}
-use Rattle.std.specs.Prelude.{slice_get, slice_index, slice_index_or, slice_set, map, ◌==◌, nat_le, ◌&&◌, not}
+use Rattle.std.proofs.Common.{◌≡◌, ℕ, zero, suc, ◌+◌, ◌-◌, ◌*◌, ◌/◌, ◌%◌, ◌^◌, ◌<◌, ◌≤◌, ◌≢◌, List, [], ◌∷◌, ◌++◌, length, drop, ap, ◌∙◌, sym, subst, refl, arith, Option, Some, None, Bool, true, false, cond, ℤ, inl, inr}
+use Rattle.std.specs.Prelude.{slice_get, slice_index, slice_index_or, slice_set, map, ◌==◌, nat_le, ◌&&◌}
 use Rattle.std.proofs.lemmas.Bool.Decides.{nat_tests}
 use Rattle.std.proofs.lemmas.List.{get_or-set_same, get_or-set_other}
 use Rattle.bk_rv_isa.specs.declared.inst.RegisterOp.{RegisterOp}
@@ -18,10 +18,10 @@ use Rattle.bk_rv_isa.specs.declared.inst.Inst.{Inst}
 use Rattle.bk_rv_isa.specs.declared.inst.Inst.TheVariants.{Op, OpImm, Shift, Addiw, Load, Store, Branch, Lui, Auipc, Jal, Jalr, Ebreak}
 use Rattle.bk_rv_isa.specs.declared.stop.Stop.{Stop}
 use Rattle.bk_rv_isa.specs.declared.stop.Stop.TheVariants.{Returned, Trapped, Fault}
-use Rattle.bk_rv_isa.specs.Encoding.{decoding, fits, word}
+use Rattle.bk_rv_isa.specs.Encoding.{fits, word}
 use Rattle.bk_rv_isa.proofs.Rows.{chosen}
 use Rattle.bk_rv_isa.proofs.Words.{decode_word}
-use Rattle.bk_rv_isa.specs.Machine.{Machine, Gives, text_base, halt, reg, put, plus, extended, decoded, fetch, load, store, jumped, with_reg, with_windows, register_result, immediate_result, shift_result, load_size, load_result, store_size, is_taken, on_load, on_store, act, act_if, step, go_on, run, HasAt, Begins, Leads}
+use Rattle.bk_rv_isa.specs.Machine.{Machine, Gives, text_base, halt, reg, plus, decoded, fetch, load, store, jumped, with_reg, with_windows, register_result, immediate_result, shift_result, load_size, load_result, store_size, is_taken, on_load, on_store, act, act_if, step, go_on, run, HasAt, Begins, Leads}
 
 -- runs
 
@@ -208,6 +208,6 @@ step_on (Some i) m m' stop h = act_stops i m m' stop h
 pub step_stops : (m m' : Machine) (stop : Stop) → step m ≡ (Some stop, m') → m' ≡ m
 step_stops m m' stop h =
     elim (chosen (m.pc == halt) (Some Returned, m) (act_if (fetch m.text m.pc) m) (Some stop, m') h) [
-      inl p ↦ halts m m' Returned stop _ refl p.1
+      | inl p ↦ halts m m' Returned stop _ refl p.1
       | inr p ↦ step_on (fetch m.text m.pc) m m' stop p.1
     ]

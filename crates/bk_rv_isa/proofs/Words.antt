@@ -1,24 +1,18 @@
 -- The word of an instruction is read as this instruction.
-use Rattle.std.proofs.Common.{◌≡◌, ℕ, ◌+◌, ◌-◌, ◌*◌, ◌/◌, ◌%◌, ◌^◌, ◌<◌, ◌≤◌, suc, ap, ◌∙◌, sym, subst, arith, refl, ℤ, pos, negsuc, Bool, true, false, Some, None, Option, cond, ◌⊎◌, inl, inr}
-use Rattle.std.specs.Prelude.{◌&&◌, nat_lt, ◌==◌, option_map}
+use Rattle.std.proofs.Common.{◌≡◌, ℕ, ◌+◌, ◌*◌, ◌/◌, ◌%◌, ◌^◌, ◌<◌, ap, ◌∙◌, subst, arith, refl, ℤ, Bool, true, false, Some, None, inl, inr}
+use Rattle.std.specs.Prelude.{◌&&◌, nat_lt}
 use Rattle.std.proofs.lemmas.Bool.Decides.{nat_tests}
 use Rattle.bk_num.specs.Word.{signed, residue, fits_signed}
-use Rattle.bk_num.proofs.Signs.{signed_residue, residue_signed, residue_below, signed_fits}
+use Rattle.bk_num.proofs.Signs.{signed_residue, residue_below}
 use Rattle.bk_rv_isa.specs.declared.inst.RegisterOp.{RegisterOp}
-use Rattle.bk_rv_isa.specs.declared.inst.RegisterOp.TheVariants.{Add, Sub, Sll, Slt, Sltu, Xor, Srl, Sra, Or, And, Mul, Mulh, Mulhsu, Mulhu, Div, Divu, Rem, Remu}
 use Rattle.bk_rv_isa.specs.declared.inst.ImmediateOp.{ImmediateOp}
-use Rattle.bk_rv_isa.specs.declared.inst.ImmediateOp.TheVariants.{Addi, Slti, Sltiu, Xori, Ori, Andi}
 use Rattle.bk_rv_isa.specs.declared.inst.ShiftOp.{ShiftOp}
-use Rattle.bk_rv_isa.specs.declared.inst.ShiftOp.TheVariants.{Slli, Srli, Srai}
 use Rattle.bk_rv_isa.specs.declared.inst.LoadOp.{LoadOp}
-use Rattle.bk_rv_isa.specs.declared.inst.LoadOp.TheVariants.{Lb, Lh, Lw, Ld, Lbu, Lhu, Lwu}
 use Rattle.bk_rv_isa.specs.declared.inst.StoreOp.{StoreOp}
-use Rattle.bk_rv_isa.specs.declared.inst.StoreOp.TheVariants.{Sb, Sh, Sw, Sd}
 use Rattle.bk_rv_isa.specs.declared.inst.BranchOp.{BranchOp}
-use Rattle.bk_rv_isa.specs.declared.inst.BranchOp.TheVariants.{Beq, Bne, Blt, Bge, Bltu, Bgeu}
 use Rattle.bk_rv_isa.specs.declared.inst.Inst.{Inst}
 use Rattle.bk_rv_isa.specs.declared.inst.Inst.TheVariants.{Op, OpImm, Shift, Addiw, Load, Store, Branch, Lui, Auipc, Jal, Jalr, Ebreak}
-use Rattle.bk_rv_isa.specs.Encoding.{r_type, i_type, s_type, b_type, u_type, j_type, register_funct3, register_funct7, immediate_funct3, shift_funct3, shift_funct6, load_funct3, store_funct3, branch_funct3, is_even_signed, fits, word, encoding, opcode, funct3, funct7, rd, rs1, rs2, count, i_immediate, s_immediate, b_immediate, u_immediate, j_immediate, register_op, immediate_op, shift_op, load_op, store_op, branch_op, op_imm, decoding_by, decoding}
+use Rattle.bk_rv_isa.specs.Encoding.{r_type, i_type, s_type, b_type, u_type, j_type, register_funct3, register_funct7, immediate_funct3, shift_funct3, shift_funct6, load_funct3, store_funct3, branch_funct3, fits, word, encoding, opcode, funct3, funct7, rd, rs1, rs2, count, decoding_by, decoding}
 use Rattle.bk_rv_isa.proofs.Rows.{chosen, both, eq_of, register_there, register_below, shift_there, shift_below, shift_rows, immediate_there, immediate_below, immediate_rows, load_there, load_below, store_there, store_below, branch_there, branch_below}
 
 pub less : (a b : ℕ) → nat_lt a b ≡ true → a < b
@@ -169,7 +163,7 @@ decode_word Ebreak h = by_code 0x00100073 0x73 refl
 pub encoding_back : (i : Inst) (n : ℕ) → encoding i ≡ Some n → decoding n ≡ Some i
 encoding_back i n h =
     elim (chosen (fits i) (Some (word i)) None (Some n) h) [
-      inl p ↦ (let e : word i ≡ n = let q = p.1 in cc in subst (λ w. decoding w ≡ Some i) e (decode_word i p.0))
+      | inl p ↦ (let e : word i ≡ n = let q = p.1 in cc in subst (λ w. decoding w ≡ Some i) e (decode_word i p.0))
       | inr p ↦ (let q = p.1 in cc)
     ]
 

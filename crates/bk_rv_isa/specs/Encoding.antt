@@ -1,5 +1,5 @@
 -- The instructions and their words: the formats, funct fields and opcodes of the RISC-V manual, and no other word.
-use Rattle.std.specs.Prelude.{ℕ, ℤ, pos, negsuc, ◌+◌, ◌*◌, ◌-◌, ◌/◌, ◌%◌, ◌^◌, Bool, true, false, nat_lt, ◌&&◌, ◌==◌, if◌then◌else◌, Option, Some, None, List, [], ◌∷◌, find, option_map}
+use Rattle.std.specs.Prelude.{ℕ, ℤ, ◌+◌, ◌*◌, ◌/◌, ◌%◌, ◌^◌, Bool, true, nat_lt, ◌&&◌, ◌==◌, if◌then◌else◌, Option, Some, None, [], ◌∷◌, find, option_map}
 use Rattle.bk_num.specs.Word.{signed, residue, fits_signed}
 use Rattle.bk_rv_isa.specs.declared.inst.RegisterOp.{RegisterOp}
 use Rattle.bk_rv_isa.specs.declared.inst.RegisterOp.TheVariants.{Add, Sub, Sll, Slt, Sltu, Xor, Srl, Sra, Or, And, Mul, Mulh, Mulhsu, Mulhu, Div, Divu, Rem, Remu}

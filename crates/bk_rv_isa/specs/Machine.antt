@@ -17,9 +17,9 @@ use Rattle.bk_rv_isa.specs.declared.inst.BranchOp.TheVariants.{Beq, Bne, Blt, Bg
 use Rattle.bk_rv_isa.specs.declared.inst.Inst.{Inst}
 use Rattle.bk_rv_isa.specs.declared.inst.Inst.TheVariants.{Op, OpImm, Shift, Addiw, Load, Store, Branch, Lui, Auipc, Jal, Jalr, Ebreak}
 use Rattle.bk_rv_isa.specs.declared.stop.Stop.{Stop}
-use Rattle.bk_rv_isa.specs.declared.stop.Stop.TheVariants.{Returned, Trapped, Going, Fault}
+use Rattle.bk_rv_isa.specs.declared.stop.Stop.TheVariants.{Returned, Trapped, Fault}
 use Rattle.bk_rv_isa.specs.Encoding.{decoding}
-use Rattle.bk_rv_isa.specs.Bytes.{number, bytes, load_in, store_in}
+use Rattle.bk_rv_isa.specs.Bytes.{bytes, load_in, store_in}
 
 -- where the text, the pool and the data begin, where the stack ends, and the return address that halts
 abbrev pub text_base : ℕ

@@ -44,7 +44,10 @@ fn b_immediate(word: u32) -> i64
     ensures { result ≡ b_immediate word }
 {
     let high = (word >> 31) * 4096 + (word >> 7) % 2 * 2048;
-    sext(13, (high + (word >> 25) % 64 * 32 + (word >> 8) % 16 * 2) as u64)
+    sext(
+        13,
+        (high + (word >> 25) % 64 * 32 + (word >> 8) % 16 * 2) as u64,
+    )
 }
 
 fn u_immediate(word: u32) -> i64
@@ -57,7 +60,10 @@ fn j_immediate(word: u32) -> i64
     ensures { result ≡ j_immediate word }
 {
     let high = (word >> 31) * 1_048_576 + (word >> 12) % 256 * 4096;
-    sext(21, (high + (word >> 20) % 2 * 2048 + (word >> 21) % 1024 * 2) as u64)
+    sext(
+        21,
+        (high + (word >> 20) % 2 * 2048 + (word >> 21) % 1024 * 2) as u64,
+    )
 }
 
 // The row of opcode 0x33 with these fields.

@@ -11,11 +11,9 @@ pub fn one_word_each()
     ensures word { (i : Inst) (n : ℕ) → encoding i ≡ Some n → n < 2 ^ 32 }
     ensures written { (i : Inst) (n : ℕ) → encoding i ≡ Some n → decoding n ≡ Some i }
     ensures read { (n : ℕ) (i : Inst) → n < 2 ^ 32 → decoding n ≡ Some i → encoding i ≡ Some n }
-{
-}
+{}
 
 /// A step that stops, by a return, a trap or a fault, leaves the machine as it was.
 pub fn a_stop_changes_nothing()
     ensures { (m after : Machine) (stop : Stop) → step m ≡ (Some stop, after) → after ≡ m }
-{
-}
+{}

@@ -15,3 +15,6 @@ pub use encoder::encode;
 pub use inst::{BranchOp, ImmediateOp, Inst, LoadOp, RegisterOp, ShiftOp, StoreOp};
 pub use laws::{a_stop_changes_nothing, one_word_each};
 pub use stop::Stop;
+
+#[cfg(test)]
+mod tests;

@@ -1,4 +1,4 @@
-use Rattle.std.proofs.Common.{◌≡◌, ◌∙◌, sym}
+use Rattle.std.proofs.Common.{◌∙◌, sym}
 use Rattle.bk_rv_isa.specs.Encoding.{decoding}
 use Rattle.bk_rv_isa.proofs.Back.{inverse}
 use Rattle.bk_rv_isa.proofs.decoder.decode.Goals as goal

@@ -1,0 +1,175 @@
+use super::*;
+
+// Words as LLVM's assembler writes them: each row with its edges.
+#[test]
+fn each_row(rt: HostRuntime) {
+    for (word, inst) in &ROWS {
+        assert_eq!(rt; encode(*inst), Some(*word), "{inst:?}");
+        assert_eq!(rt; decode(*word), Some(*inst), "{word:08x}");
+    }
+}
+
+// One bit off a row, rows of other extensions, and rows that are left out.
+#[test]
+fn other_words(rt: HostRuntime) {
+    for word in OTHERS {
+        assert_eq!(rt; decode(word), None, "{word:08x}");
+    }
+}
+
+#[test]
+fn fields_past_their_limits(rt: HostRuntime) {
+    for inst in &TOO_LARGE {
+        assert_eq!(rt; encode(*inst), None, "{inst:?}");
+    }
+}
+
+const ROWS: [(u32, Inst); 108] = [
+    (0xff010f93, Inst::OpImm(ImmediateOp::Addi, 31, 2, -16)),
+    (0x01bff663, Inst::Branch(BranchOp::Bgeu, 31, 27, 12)),
+    (0x00500f93, Inst::OpImm(ImmediateOp::Addi, 31, 0, 5)),
+    (0x00100073, Inst::Ebreak),
+    (0x000f8113, Inst::OpImm(ImmediateOp::Addi, 2, 31, 0)),
+    (0x00113423, Inst::Store(StoreOp::Sd, 1, 2, 8)),
+    (0x01013283, Inst::Load(LoadOp::Ld, 5, 2, 16)),
+    (0x01813303, Inst::Load(LoadOp::Ld, 6, 2, 24)),
+    (0x006282b3, Inst::Op(RegisterOp::Add, 5, 5, 6)),
+    (0x02513023, Inst::Store(StoreOp::Sd, 5, 2, 32)),
+    (0x00813083, Inst::Load(LoadOp::Ld, 1, 2, 8)),
+    (0x01010113, Inst::OpImm(ImmediateOp::Addi, 2, 2, 16)),
+    (0x00008067, Inst::Jalr(0, 1, 0)),
+    (0x000f8033, Inst::Op(RegisterOp::Add, 0, 31, 0)),
+    (0x41f00fb3, Inst::Op(RegisterOp::Sub, 31, 0, 31)),
+    (0x004110b3, Inst::Op(RegisterOp::Sll, 1, 2, 4)),
+    (0x01542833, Inst::Op(RegisterOp::Slt, 16, 8, 21)),
+    (0x000fb033, Inst::Op(RegisterOp::Sltu, 0, 31, 0)),
+    (0x01f04fb3, Inst::Op(RegisterOp::Xor, 31, 0, 31)),
+    (0x004150b3, Inst::Op(RegisterOp::Srl, 1, 2, 4)),
+    (0x41545833, Inst::Op(RegisterOp::Sra, 16, 8, 21)),
+    (0x000fe033, Inst::Op(RegisterOp::Or, 0, 31, 0)),
+    (0x01f07fb3, Inst::Op(RegisterOp::And, 31, 0, 31)),
+    (0x024100b3, Inst::Op(RegisterOp::Mul, 1, 2, 4)),
+    (0x03541833, Inst::Op(RegisterOp::Mulh, 16, 8, 21)),
+    (0x020fa033, Inst::Op(RegisterOp::Mulhsu, 0, 31, 0)),
+    (0x03f03fb3, Inst::Op(RegisterOp::Mulhu, 31, 0, 31)),
+    (0x024140b3, Inst::Op(RegisterOp::Div, 1, 2, 4)),
+    (0x03545833, Inst::Op(RegisterOp::Divu, 16, 8, 21)),
+    (0x020fe033, Inst::Op(RegisterOp::Rem, 0, 31, 0)),
+    (0x03f07fb3, Inst::Op(RegisterOp::Remu, 31, 0, 31)),
+    (0xfff10f93, Inst::OpImm(ImmediateOp::Addi, 31, 2, -1)),
+    (0x00010f93, Inst::OpImm(ImmediateOp::Addi, 31, 2, 0)),
+    (0x7ff10f93, Inst::OpImm(ImmediateOp::Addi, 31, 2, 2047)),
+    (0x800fa013, Inst::OpImm(ImmediateOp::Slti, 0, 31, -2048)),
+    (0x7fffa013, Inst::OpImm(ImmediateOp::Slti, 0, 31, 2047)),
+    (0xfff8b293, Inst::OpImm(ImmediateOp::Sltiu, 5, 17, -1)),
+    (0x0008b293, Inst::OpImm(ImmediateOp::Sltiu, 5, 17, 0)),
+    (0x7ff8b293, Inst::OpImm(ImmediateOp::Sltiu, 5, 17, 2047)),
+    (0xff08b293, Inst::OpImm(ImmediateOp::Sltiu, 5, 17, -16)),
+    (0x80014f93, Inst::OpImm(ImmediateOp::Xori, 31, 2, -2048)),
+    (0x7ff14f93, Inst::OpImm(ImmediateOp::Xori, 31, 2, 2047)),
+    (0xffffe013, Inst::OpImm(ImmediateOp::Ori, 0, 31, -1)),
+    (0x000fe013, Inst::OpImm(ImmediateOp::Ori, 0, 31, 0)),
+    (0x7fffe013, Inst::OpImm(ImmediateOp::Ori, 0, 31, 2047)),
+    (0xff0fe013, Inst::OpImm(ImmediateOp::Ori, 0, 31, -16)),
+    (0x8008f293, Inst::OpImm(ImmediateOp::Andi, 5, 17, -2048)),
+    (0x7ff8f293, Inst::OpImm(ImmediateOp::Andi, 5, 17, 2047)),
+    (0x000b1493, Inst::Shift(ShiftOp::Slli, 9, 22, 0)),
+    (0x01fb1493, Inst::Shift(ShiftOp::Slli, 9, 22, 31)),
+    (0x020b1493, Inst::Shift(ShiftOp::Slli, 9, 22, 32)),
+    (0x03fb1493, Inst::Shift(ShiftOp::Slli, 9, 22, 63)),
+    (0x000b5493, Inst::Shift(ShiftOp::Srli, 9, 22, 0)),
+    (0x01fb5493, Inst::Shift(ShiftOp::Srli, 9, 22, 31)),
+    (0x020b5493, Inst::Shift(ShiftOp::Srli, 9, 22, 32)),
+    (0x03fb5493, Inst::Shift(ShiftOp::Srli, 9, 22, 63)),
+    (0x400b5493, Inst::Shift(ShiftOp::Srai, 9, 22, 0)),
+    (0x41fb5493, Inst::Shift(ShiftOp::Srai, 9, 22, 31)),
+    (0x420b5493, Inst::Shift(ShiftOp::Srai, 9, 22, 32)),
+    (0x43fb5493, Inst::Shift(ShiftOp::Srai, 9, 22, 63)),
+    (0x00008f9b, Inst::Addiw(31, 1, 0)),
+    (0x80008f9b, Inst::Addiw(31, 1, -2048)),
+    (0x7ff08f9b, Inst::Addiw(31, 1, 2047)),
+    (0x800f8083, Inst::Load(LoadOp::Lb, 1, 31, -2048)),
+    (0x7fff1103, Inst::Load(LoadOp::Lh, 2, 30, 2047)),
+    (0x010ea183, Inst::Load(LoadOp::Lw, 3, 29, 16)),
+    (0xfffea183, Inst::Load(LoadOp::Lw, 3, 29, -1)),
+    (0x800e3203, Inst::Load(LoadOp::Ld, 4, 28, -2048)),
+    (0x7ffdc283, Inst::Load(LoadOp::Lbu, 5, 27, 2047)),
+    (0x010d5303, Inst::Load(LoadOp::Lhu, 6, 26, 16)),
+    (0xfffd5303, Inst::Load(LoadOp::Lhu, 6, 26, -1)),
+    (0x800ce383, Inst::Load(LoadOp::Lwu, 7, 25, -2048)),
+    (0x801f8023, Inst::Store(StoreOp::Sb, 1, 31, -2048)),
+    (0x001f8fa3, Inst::Store(StoreOp::Sb, 1, 31, 31)),
+    (0x7e2f1fa3, Inst::Store(StoreOp::Sh, 2, 30, 2047)),
+    (0x022f1023, Inst::Store(StoreOp::Sh, 2, 30, 32)),
+    (0xfe3eafa3, Inst::Store(StoreOp::Sw, 3, 29, -1)),
+    (0x004e3423, Inst::Store(StoreOp::Sd, 4, 28, 8)),
+    (0xfe4e3023, Inst::Store(StoreOp::Sd, 4, 28, -32)),
+    (0x800f8063, Inst::Branch(BranchOp::Beq, 31, 0, -4096)),
+    (0x7e1f1fe3, Inst::Branch(BranchOp::Bne, 30, 1, 4094)),
+    (0x002ec0e3, Inst::Branch(BranchOp::Blt, 29, 2, 2048)),
+    (0xfe2ecfe3, Inst::Branch(BranchOp::Blt, 29, 2, -2)),
+    (0x003e5f63, Inst::Branch(BranchOp::Bge, 28, 3, 30)),
+    (0x023e5063, Inst::Branch(BranchOp::Bge, 28, 3, 32)),
+    (0x7e4def63, Inst::Branch(BranchOp::Bltu, 27, 4, 2046)),
+    (0x805d70e3, Inst::Branch(BranchOp::Bgeu, 26, 5, -2048)),
+    (0x005d7663, Inst::Branch(BranchOp::Bgeu, 26, 5, 12)),
+    (0x000002b7, Inst::Lui(5, 0)),
+    (0x000012b7, Inst::Lui(5, 1)),
+    (0x7ffff2b7, Inst::Lui(5, 524287)),
+    (0xffffffb7, Inst::Lui(31, -1)),
+    (0x80000fb7, Inst::Lui(31, -524288)),
+    (0x00000297, Inst::Auipc(5, 0)),
+    (0x7ffff297, Inst::Auipc(5, 524287)),
+    (0xffffff97, Inst::Auipc(31, -1)),
+    (0x80000097, Inst::Auipc(1, -524288)),
+    (0x000000ef, Inst::Jal(1, 0)),
+    (0xfffff0ef, Inst::Jal(1, -2)),
+    (0x7fe000ef, Inst::Jal(1, 2046)),
+    (0x001000ef, Inst::Jal(1, 2048)),
+    (0x000010ef, Inst::Jal(1, 4096)),
+    (0x7ffff0ef, Inst::Jal(1, 1048574)),
+    (0x800000ef, Inst::Jal(1, -1048576)),
+    (0x800ff06f, Inst::Jal(0, -4096)),
+    (0x000f80e7, Inst::Jalr(1, 31, 0)),
+    (0x800f80e7, Inst::Jalr(1, 31, -2048)),
+    (0x7fff80e7, Inst::Jalr(1, 31, 2047)),
+];
+
+const OTHERS: [u32; 46] = [
+    0x00000000, 0xffffffff, 0x00000073, 0x00200073, 0x00100173, 0x00108073, 0x00101073, 0x00100072,
+    0x00100071, 0x0010109b, 0x0010509b, 0x4010509b, 0x0020103b, 0x002080bb, 0x0000000f, 0x0000100f,
+    0x04208033, 0x40209033, 0x4020a033, 0x4020c033, 0x4020e033, 0x4020f033, 0x06208033, 0x80208033,
+    0x04109113, 0x40109113, 0x08105113, 0x44105113, 0x80005113, 0x00007003, 0x0000f083, 0x00104023,
+    0x00107023, 0x0020a063, 0x0020b063, 0x00009067, 0x0000f067, 0x00000032, 0x00000034, 0x0020802f,
+    0x00302007, 0x00302027, 0x0000002f, 0x0000006b, 0x00000057, 0x00000043,
+];
+
+const TOO_LARGE: [Inst; 27] = [
+    Inst::Op(RegisterOp::Add, 32, 0, 0),
+    Inst::Op(RegisterOp::Add, 0, 32, 0),
+    Inst::Op(RegisterOp::Add, 0, 0, 32),
+    Inst::OpImm(ImmediateOp::Addi, 0, 0, 2048),
+    Inst::OpImm(ImmediateOp::Addi, 0, 0, -2049),
+    Inst::OpImm(ImmediateOp::Andi, 255, 0, 0),
+    Inst::Shift(ShiftOp::Slli, 0, 0, 64),
+    Inst::Shift(ShiftOp::Srai, 0, 32, 0),
+    Inst::Addiw(0, 0, 2048),
+    Inst::Addiw(32, 0, 0),
+    Inst::Load(LoadOp::Ld, 0, 0, -2049),
+    Inst::Load(LoadOp::Ld, 0, 32, 0),
+    Inst::Store(StoreOp::Sd, 32, 0, 0),
+    Inst::Store(StoreOp::Sd, 0, 0, 2048),
+    Inst::Branch(BranchOp::Beq, 0, 0, 4096),
+    Inst::Branch(BranchOp::Beq, 0, 0, -4098),
+    Inst::Branch(BranchOp::Beq, 0, 0, 3),
+    Inst::Branch(BranchOp::Beq, 0, 32, 4),
+    Inst::Lui(0, 524288),
+    Inst::Lui(0, -524289),
+    Inst::Auipc(32, 0),
+    Inst::Jal(0, 1048576),
+    Inst::Jal(0, -1048578),
+    Inst::Jal(0, 1),
+    Inst::Jal(32, 0),
+    Inst::Jalr(0, 0, 2048),
+    Inst::Jalr(0, 0, i64::MIN),
+];
