@@ -1,9 +1,14 @@
+ghost use Rattle.std.specs.Prelude.{◌≡◌, [], ◌∷◌, IfOk};
+ghost use Rattle.bk_core.specs.Events.{start};
+
 use super::*;
 use std::alloc::Global;
 use std::test::Fail;
 
 // A core at its start, with two parts, and one key that is announced twice in the last area.
-fn opened(alloc: Global) -> Result<Core, Fail> {
+fn opened(alloc: Global) -> Result<Core, Fail>
+    ensures { IfOk result (λ core. core ≡ start ([] ∷ [] ∷ (9 ∷ 9 ∷ []) ∷ []) 2) }
+{
     let first = View {
         parts: 2,
         numbers: Vec::new(alloc),
