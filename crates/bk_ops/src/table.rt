@@ -1,6 +1,6 @@
 // The op table, and what it says of an op.
-ghost use Rattle.std.specs.Prelude.{◌≡◌, IsTrue};
-ghost use Rattle.bk_ops.specs.Table.{row, arm_row, rv_row, allows, info_of};
+ghost use Rattle.std.specs.Prelude.{◌≡◌};
+ghost use Rattle.bk_ops.specs.Table.{seen, entry, row, arm_row, rv_row, allows, info_of};
 
 use crate::{ArmOp, Family, RvOp};
 
@@ -88,122 +88,135 @@ pub(crate) struct Row {
     pub(crate) info: OpInfo,
 }
 
-macro_rules! row {
-    ($head:literal, $tail:literal, $widths:expr, $arity:expr, $aux:ident, $result:expr, $commutative:expr, $memory:expr) => {
-        Row {
-            head: $head,
-            tail: $tail,
-            widths: $widths,
-            info: OpInfo {
-                arity: $arity,
-                aux: AuxKind::$aux,
-                result: $result,
-                commutative: $commutative,
-                memory: $memory,
-            },
-        }
+#[tactic(auto, unfolding(crate::specs::Table::entry))]
+#[allow(clippy::too_many_arguments)]
+fn entry(
+    head: &'static [u8],
+    tail: &'static [u8],
+    widths: Widths,
+    arity: Option<u8>,
+    aux: AuxKind,
+    class: Class,
+    commutative: bool,
+    memory: bool,
+) -> Row
+    ensures {
+        seen result.head.now result.tail.now result.widths result.info
+            ≡ entry head.now tail.now widths arity aux class commutative memory
+    }
+{
+    let info = OpInfo {
+        arity,
+        aux,
+        result: class,
+        commutative,
+        memory,
     };
+    Row {
+        head,
+        tail,
+        widths,
+        info,
+    }
 }
 
 /// The op table: the row of the op's family. The columns are head, tail, widths, count of arguments, aux,
 /// result, commutative, memory.
+#[tactic(auto, unfolding(crate::specs::Table::row))]
 pub(crate) fn row_of(op: Op) -> Row
-    ensures head { result.head.now ≡ (row op.family op.a op.b).head }
-    ensures tail { result.tail.now ≡ (row op.family op.a op.b).tail }
-    ensures widths { result.widths ≡ (row op.family op.a op.b).widths }
-    ensures info { result.info ≡ (row op.family op.a op.b).info }
+    ensures { seen result.head.now result.tail.now result.widths result.info ≡ row op.family op.a op.b }
 {
     use Class::{Bool, ByType, Mem, Number, Tuple, Void, Word};
     use Widths::{Alone, Each, Falling, Long, Only, Pairs, Rising};
     match op.family {
         // Constants.
-        Family::Const => row!(b"Const", b"", Each, Some(0), Int, Number(op.a), false, false),
-        Family::ConstBool => row!(b"ConstBool", b"", Alone, Some(0), Int, Bool, false, false),
-        Family::ConstNil => row!(b"ConstNil", b"", Alone, Some(0), None, Word, false, false),
+        Family::Const => entry(b"Const", b"", Each, Some(0), AuxKind::Int, Number(op.a), false, false),
+        Family::ConstBool => entry(b"ConstBool", b"", Alone, Some(0), AuxKind::Int, Bool, false, false),
+        Family::ConstNil => entry(b"ConstNil", b"", Alone, Some(0), AuxKind::None, Word, false, false),
         // Arithmetic.
-        Family::Add => row!(b"Add", b"", Each, Some(2), None, Number(op.a), true, false),
-        Family::Sub => row!(b"Sub", b"", Each, Some(2), None, Number(op.a), false, false),
-        Family::Mul => row!(b"Mul", b"", Each, Some(2), None, Number(op.a), true, false),
-        Family::And => row!(b"And", b"", Each, Some(2), None, Number(op.a), true, false),
-        Family::Or => row!(b"Or", b"", Each, Some(2), None, Number(op.a), true, false),
-        Family::Xor => row!(b"Xor", b"", Each, Some(2), None, Number(op.a), true, false),
-        Family::Neg => row!(b"Neg", b"", Each, Some(1), None, Number(op.a), false, false),
-        Family::Com => row!(b"Com", b"", Each, Some(1), None, Number(op.a), false, false),
-        Family::Div => row!(b"Div", b"", Each, Some(2), None, Number(op.a), false, false),
-        Family::Divu => row!(b"Div", b"u", Each, Some(2), None, Number(op.a), false, false),
-        Family::Mod => row!(b"Mod", b"", Each, Some(2), None, Number(op.a), false, false),
-        Family::Modu => row!(b"Mod", b"u", Each, Some(2), None, Number(op.a), false, false),
-        Family::Hmul => row!(b"Hmul", b"", Long, Some(2), None, Number(op.a), true, false),
-        Family::Hmulu => row!(b"Hmul", b"u", Long, Some(2), None, Number(op.a), true, false),
+        Family::Add => entry(b"Add", b"", Each, Some(2), AuxKind::None, Number(op.a), true, false),
+        Family::Sub => entry(b"Sub", b"", Each, Some(2), AuxKind::None, Number(op.a), false, false),
+        Family::Mul => entry(b"Mul", b"", Each, Some(2), AuxKind::None, Number(op.a), true, false),
+        Family::And => entry(b"And", b"", Each, Some(2), AuxKind::None, Number(op.a), true, false),
+        Family::Or => entry(b"Or", b"", Each, Some(2), AuxKind::None, Number(op.a), true, false),
+        Family::Xor => entry(b"Xor", b"", Each, Some(2), AuxKind::None, Number(op.a), true, false),
+        Family::Neg => entry(b"Neg", b"", Each, Some(1), AuxKind::None, Number(op.a), false, false),
+        Family::Com => entry(b"Com", b"", Each, Some(1), AuxKind::None, Number(op.a), false, false),
+        Family::Div => entry(b"Div", b"", Each, Some(2), AuxKind::None, Number(op.a), false, false),
+        Family::Divu => entry(b"Div", b"u", Each, Some(2), AuxKind::None, Number(op.a), false, false),
+        Family::Mod => entry(b"Mod", b"", Each, Some(2), AuxKind::None, Number(op.a), false, false),
+        Family::Modu => entry(b"Mod", b"u", Each, Some(2), AuxKind::None, Number(op.a), false, false),
+        Family::Hmul => entry(b"Hmul", b"", Long, Some(2), AuxKind::None, Number(op.a), true, false),
+        Family::Hmulu => entry(b"Hmul", b"u", Long, Some(2), AuxKind::None, Number(op.a), true, false),
         // Shifts of a bits by a count of b bits.
-        Family::Lsh => row!(b"Lsh", b"x", Pairs, Some(2), None, Number(op.a), false, false),
-        Family::Rsh => row!(b"Rsh", b"x", Pairs, Some(2), None, Number(op.a), false, false),
-        Family::RshU => row!(b"Rsh", b"Ux", Pairs, Some(2), None, Number(op.a), false, false),
+        Family::Lsh => entry(b"Lsh", b"x", Pairs, Some(2), AuxKind::None, Number(op.a), false, false),
+        Family::Rsh => entry(b"Rsh", b"x", Pairs, Some(2), AuxKind::None, Number(op.a), false, false),
+        Family::RshU => entry(b"Rsh", b"Ux", Pairs, Some(2), AuxKind::None, Number(op.a), false, false),
         // Comparisons.
-        Family::Eq => row!(b"Eq", b"", Each, Some(2), None, Bool, true, false),
-        Family::Neq => row!(b"Neq", b"", Each, Some(2), None, Bool, true, false),
-        Family::Less => row!(b"Less", b"", Each, Some(2), None, Bool, false, false),
-        Family::LessU => row!(b"Less", b"U", Each, Some(2), None, Bool, false, false),
-        Family::Leq => row!(b"Leq", b"", Each, Some(2), None, Bool, false, false),
-        Family::LeqU => row!(b"Leq", b"U", Each, Some(2), None, Bool, false, false),
+        Family::Eq => entry(b"Eq", b"", Each, Some(2), AuxKind::None, Bool, true, false),
+        Family::Neq => entry(b"Neq", b"", Each, Some(2), AuxKind::None, Bool, true, false),
+        Family::Less => entry(b"Less", b"", Each, Some(2), AuxKind::None, Bool, false, false),
+        Family::LessU => entry(b"Less", b"U", Each, Some(2), AuxKind::None, Bool, false, false),
+        Family::Leq => entry(b"Leq", b"", Each, Some(2), AuxKind::None, Bool, false, false),
+        Family::LeqU => entry(b"Leq", b"U", Each, Some(2), AuxKind::None, Bool, false, false),
         // Truth values and pointers.
-        Family::EqB => row!(b"EqB", b"", Alone, Some(2), None, Bool, false, false),
-        Family::NeqB => row!(b"NeqB", b"", Alone, Some(2), None, Bool, false, false),
-        Family::AndB => row!(b"AndB", b"", Alone, Some(2), None, Bool, true, false),
-        Family::OrB => row!(b"OrB", b"", Alone, Some(2), None, Bool, true, false),
-        Family::Not => row!(b"Not", b"", Alone, Some(1), None, Bool, false, false),
-        Family::EqPtr => row!(b"EqPtr", b"", Alone, Some(2), None, Bool, false, false),
-        Family::NeqPtr => row!(b"NeqPtr", b"", Alone, Some(2), None, Bool, false, false),
-        Family::IsNonNil => row!(b"IsNonNil", b"", Alone, Some(1), None, Bool, false, false),
-        Family::IsInBounds => row!(b"IsInBounds", b"", Alone, Some(2), None, Bool, false, false),
-        Family::IsSliceInBounds => row!(b"IsSliceInBounds", b"", Alone, Some(2), None, Bool, false, false),
+        Family::EqB => entry(b"EqB", b"", Alone, Some(2), AuxKind::None, Bool, false, false),
+        Family::NeqB => entry(b"NeqB", b"", Alone, Some(2), AuxKind::None, Bool, false, false),
+        Family::AndB => entry(b"AndB", b"", Alone, Some(2), AuxKind::None, Bool, true, false),
+        Family::OrB => entry(b"OrB", b"", Alone, Some(2), AuxKind::None, Bool, true, false),
+        Family::Not => entry(b"Not", b"", Alone, Some(1), AuxKind::None, Bool, false, false),
+        Family::EqPtr => entry(b"EqPtr", b"", Alone, Some(2), AuxKind::None, Bool, false, false),
+        Family::NeqPtr => entry(b"NeqPtr", b"", Alone, Some(2), AuxKind::None, Bool, false, false),
+        Family::IsNonNil => entry(b"IsNonNil", b"", Alone, Some(1), AuxKind::None, Bool, false, false),
+        Family::IsInBounds => entry(b"IsInBounds", b"", Alone, Some(2), AuxKind::None, Bool, false, false),
+        Family::IsSliceInBounds => entry(b"IsSliceInBounds", b"", Alone, Some(2), AuxKind::None, Bool, false, false),
         // Conversions from a bits to b bits.
-        Family::SignExt => row!(b"SignExt", b"to", Rising, Some(1), None, Number(op.b), false, false),
-        Family::ZeroExt => row!(b"ZeroExt", b"to", Rising, Some(1), None, Number(op.b), false, false),
-        Family::Trunc => row!(b"Trunc", b"to", Falling, Some(1), None, Number(op.b), false, false),
-        Family::CvtBoolToUint8 => row!(b"CvtBoolToUint", b"", Only(8), Some(1), None, Number(8), false, false),
+        Family::SignExt => entry(b"SignExt", b"to", Rising, Some(1), AuxKind::None, Number(op.b), false, false),
+        Family::ZeroExt => entry(b"ZeroExt", b"to", Rising, Some(1), AuxKind::None, Number(op.b), false, false),
+        Family::Trunc => entry(b"Trunc", b"to", Falling, Some(1), AuxKind::None, Number(op.b), false, false),
+        Family::CvtBoolToUint8 => entry(b"CvtBoolToUint", b"", Only(8), Some(1), AuxKind::None, Number(8), false, false),
         // Masks, bits and rotations.
-        Family::Signmask => row!(b"Signmask", b"", Alone, Some(1), None, Number(32), false, false),
-        Family::Zeromask => row!(b"Zeromask", b"", Alone, Some(1), None, Number(32), false, false),
-        Family::Ctz32 => row!(b"Ctz", b"", Only(32), Some(1), None, Number(32), false, false),
-        Family::BitLen32 => row!(b"BitLen", b"", Only(32), Some(1), None, Number(32), false, false),
-        Family::RotateLeft => row!(b"RotateLeft", b"", Long, Some(2), None, Number(op.a), false, false),
-        Family::CondSelect => row!(b"CondSelect", b"", Alone, Some(3), None, ByType, false, false),
+        Family::Signmask => entry(b"Signmask", b"", Alone, Some(1), AuxKind::None, Number(32), false, false),
+        Family::Zeromask => entry(b"Zeromask", b"", Alone, Some(1), AuxKind::None, Number(32), false, false),
+        Family::Ctz32 => entry(b"Ctz", b"", Only(32), Some(1), AuxKind::None, Number(32), false, false),
+        Family::BitLen32 => entry(b"BitLen", b"", Only(32), Some(1), AuxKind::None, Number(32), false, false),
+        Family::RotateLeft => entry(b"RotateLeft", b"", Long, Some(2), AuxKind::None, Number(op.a), false, false),
+        Family::CondSelect => entry(b"CondSelect", b"", Alone, Some(3), AuxKind::None, ByType, false, false),
         // Addresses.
-        Family::AddPtr => row!(b"AddPtr", b"", Alone, Some(2), None, Word, false, false),
-        Family::SubPtr => row!(b"SubPtr", b"", Alone, Some(2), None, Word, false, false),
-        Family::OffPtr => row!(b"OffPtr", b"", Alone, Some(1), Int, Word, false, false),
+        Family::AddPtr => entry(b"AddPtr", b"", Alone, Some(2), AuxKind::None, Word, false, false),
+        Family::SubPtr => entry(b"SubPtr", b"", Alone, Some(2), AuxKind::None, Word, false, false),
+        Family::OffPtr => entry(b"OffPtr", b"", Alone, Some(1), AuxKind::Int, Word, false, false),
         // Numbers of 64 bits in halves.
-        Family::Int64Make => row!(b"Int", b"Make", Only(64), Some(2), None, Number(64), false, false),
-        Family::Int64Hi => row!(b"Int", b"Hi", Only(64), Some(1), None, Number(32), false, false),
-        Family::Int64Lo => row!(b"Int", b"Lo", Only(64), Some(1), None, Number(32), false, false),
-        Family::AddHi32 => row!(b"AddHi", b"", Only(32), Some(4), None, Number(32), false, false),
-        Family::SubHi32 => row!(b"SubHi", b"", Only(32), Some(4), None, Number(32), false, false),
+        Family::Int64Make => entry(b"Int", b"Make", Only(64), Some(2), AuxKind::None, Number(64), false, false),
+        Family::Int64Hi => entry(b"Int", b"Hi", Only(64), Some(1), AuxKind::None, Number(32), false, false),
+        Family::Int64Lo => entry(b"Int", b"Lo", Only(64), Some(1), AuxKind::None, Number(32), false, false),
+        Family::AddHi32 => entry(b"AddHi", b"", Only(32), Some(4), AuxKind::None, Number(32), false, false),
+        Family::SubHi32 => entry(b"SubHi", b"", Only(32), Some(4), AuxKind::None, Number(32), false, false),
         // Values of a block or a function.
-        Family::Phi => row!(b"Phi", b"", Alone, None, None, ByType, false, false),
-        Family::Copy => row!(b"Copy", b"", Alone, Some(1), None, ByType, false, false),
-        Family::Arg => row!(b"Arg", b"", Alone, Some(0), Name, ByType, false, false),
-        Family::InitMem => row!(b"InitMem", b"", Alone, Some(0), None, Mem, false, true),
-        Family::Sp => row!(b"SP", b"", Alone, Some(0), None, Word, false, false),
-        Family::Sb => row!(b"SB", b"", Alone, Some(0), None, Word, false, false),
-        Family::Addr => row!(b"Addr", b"", Alone, Some(1), Name, Word, false, false),
+        Family::Phi => entry(b"Phi", b"", Alone, None, AuxKind::None, ByType, false, false),
+        Family::Copy => entry(b"Copy", b"", Alone, Some(1), AuxKind::None, ByType, false, false),
+        Family::Arg => entry(b"Arg", b"", Alone, Some(0), AuxKind::Name, ByType, false, false),
+        Family::InitMem => entry(b"InitMem", b"", Alone, Some(0), AuxKind::None, Mem, false, true),
+        Family::Sp => entry(b"SP", b"", Alone, Some(0), AuxKind::None, Word, false, false),
+        Family::Sb => entry(b"SB", b"", Alone, Some(0), AuxKind::None, Word, false, false),
+        Family::Addr => entry(b"Addr", b"", Alone, Some(1), AuxKind::Name, Word, false, false),
         // Memory, checks and calls.
-        Family::Load => row!(b"Load", b"", Alone, Some(2), None, ByType, false, true),
-        Family::Store => row!(b"Store", b"", Alone, Some(3), Ty, Mem, false, true),
-        Family::Zero => row!(b"Zero", b"", Alone, Some(2), Int, Mem, false, true),
-        Family::Move => row!(b"Move", b"", Alone, Some(3), Int, Mem, false, true),
-        Family::NilCheck => row!(b"NilCheck", b"", Alone, Some(2), None, Void, false, true),
-        Family::PanicBounds => row!(b"PanicBounds", b"", Alone, Some(3), Int, Mem, false, true),
-        Family::StaticLECall => row!(b"StaticLECall", b"", Alone, None, Name, Tuple, false, true),
-        Family::SelectN => row!(b"SelectN", b"", Alone, Some(1), Int, ByType, false, false),
-        Family::MakeResult => row!(b"MakeResult", b"", Alone, None, None, Tuple, false, true),
+        Family::Load => entry(b"Load", b"", Alone, Some(2), AuxKind::None, ByType, false, true),
+        Family::Store => entry(b"Store", b"", Alone, Some(3), AuxKind::Ty, Mem, false, true),
+        Family::Zero => entry(b"Zero", b"", Alone, Some(2), AuxKind::Int, Mem, false, true),
+        Family::Move => entry(b"Move", b"", Alone, Some(3), AuxKind::Int, Mem, false, true),
+        Family::NilCheck => entry(b"NilCheck", b"", Alone, Some(2), AuxKind::None, Void, false, true),
+        Family::PanicBounds => entry(b"PanicBounds", b"", Alone, Some(3), AuxKind::Int, Mem, false, true),
+        Family::StaticLECall => entry(b"StaticLECall", b"", Alone, None, AuxKind::Name, Tuple, false, true),
+        Family::SelectN => entry(b"SelectN", b"", Alone, Some(1), AuxKind::Int, ByType, false, false),
+        Family::MakeResult => entry(b"MakeResult", b"", Alone, None, AuxKind::None, Tuple, false, true),
         // Words of arguments and results, calls and traps.
-        Family::ArgWord => row!(b"ARGWORD", b"", Alone, Some(0), Int, Word, false, false),
-        Family::ResWord => row!(b"RESWORD", b"", Alone, Some(1), Int, Word, false, false),
-        Family::OutWord => row!(b"OUTWORD", b"", Alone, Some(2), Int, Mem, false, true),
-        Family::RetWord => row!(b"RETWORD", b"", Alone, Some(2), Int, Mem, false, true),
-        Family::Call => row!(b"CALL", b"", Alone, Some(1), Name, Mem, false, true),
-        Family::Trap => row!(b"TRAP", b"", Alone, Some(1), Int, Mem, false, true),
+        Family::ArgWord => entry(b"ARGWORD", b"", Alone, Some(0), AuxKind::Int, Word, false, false),
+        Family::ResWord => entry(b"RESWORD", b"", Alone, Some(1), AuxKind::Int, Word, false, false),
+        Family::OutWord => entry(b"OUTWORD", b"", Alone, Some(2), AuxKind::Int, Mem, false, true),
+        Family::RetWord => entry(b"RETWORD", b"", Alone, Some(2), AuxKind::Int, Mem, false, true),
+        Family::Call => entry(b"CALL", b"", Alone, Some(1), AuxKind::Name, Mem, false, true),
+        Family::Trap => entry(b"TRAP", b"", Alone, Some(1), AuxKind::Int, Mem, false, true),
         // Machine ops.
         Family::Arm(op) => arm_row_of(op),
         Family::Rv(op) => rv_row_of(op),
@@ -211,114 +224,110 @@ pub(crate) fn row_of(op: Op) -> Row
 }
 
 /// The machine ops of arm.
+#[tactic(auto, unfolding(crate::specs::Table::arm_row))]
 fn arm_row_of(op: ArmOp) -> Row
-    ensures head { result.head.now ≡ (arm_row op).head }
-    ensures tail { result.tail.now ≡ (arm_row op).tail }
-    ensures widths { result.widths ≡ (arm_row op).widths }
-    ensures info { result.info ≡ (arm_row op).info }
+    ensures { seen result.head.now result.tail.now result.widths result.info ≡ arm_row op }
 {
     use Class::{Mem, Void, Word};
     use Widths::{Alone, UpTo4};
     match op {
-        ArmOp::Const => row!(b"ARMCONST", b"", Alone, Some(0), Int, Word, false, false),
-        ArmOp::Addr => row!(b"ARMADDR", b"", Alone, Some(0), Name, Word, false, false),
-        ArmOp::Add => row!(b"ARMADD", b"", Alone, Some(2), None, Word, true, false),
-        ArmOp::Sub => row!(b"ARMSUB", b"", Alone, Some(2), None, Word, false, false),
-        ArmOp::Mul => row!(b"ARMMUL", b"", Alone, Some(2), None, Word, false, false),
-        ArmOp::And => row!(b"ARMAND", b"", Alone, Some(2), None, Word, true, false),
-        ArmOp::Orr => row!(b"ARMORR", b"", Alone, Some(2), None, Word, true, false),
-        ArmOp::Eor => row!(b"ARMEOR", b"", Alone, Some(2), None, Word, true, false),
-        ArmOp::Smulh => row!(b"ARMSMULH", b"", Alone, Some(2), None, Word, false, false),
-        ArmOp::Umulh => row!(b"ARMUMULH", b"", Alone, Some(2), None, Word, false, false),
-        ArmOp::Sdiv => row!(b"ARMSDIV", b"", Alone, Some(2), None, Word, false, false),
-        ArmOp::Udiv => row!(b"ARMUDIV", b"", Alone, Some(2), None, Word, false, false),
-        ArmOp::Smod => row!(b"ARMSMOD", b"", Alone, Some(2), None, Word, false, false),
-        ArmOp::Umod => row!(b"ARMUMOD", b"", Alone, Some(2), None, Word, false, false),
-        ArmOp::Lsl => row!(b"ARMLSL", b"", Alone, Some(2), None, Word, false, false),
-        ArmOp::Lsr => row!(b"ARMLSR", b"", Alone, Some(2), None, Word, false, false),
-        ArmOp::Asr => row!(b"ARMASR", b"", Alone, Some(2), None, Word, false, false),
-        ArmOp::SetEq => row!(b"ARMSETEQ", b"", Alone, Some(2), None, Word, false, false),
-        ArmOp::SetNe => row!(b"ARMSETNE", b"", Alone, Some(2), None, Word, false, false),
-        ArmOp::SetLt => row!(b"ARMSETLT", b"", Alone, Some(2), None, Word, false, false),
-        ArmOp::SetLe => row!(b"ARMSETLE", b"", Alone, Some(2), None, Word, false, false),
-        ArmOp::SetLo => row!(b"ARMSETLO", b"", Alone, Some(2), None, Word, false, false),
-        ArmOp::SetLs => row!(b"ARMSETLS", b"", Alone, Some(2), None, Word, false, false),
-        ArmOp::Rotl => row!(b"ARMROTL", b"", Alone, Some(2), None, Word, false, false),
-        ArmOp::Rsb0 => row!(b"ARMRSB0", b"", Alone, Some(1), None, Word, false, false),
-        ArmOp::Mvn => row!(b"ARMMVN", b"", Alone, Some(1), None, Word, false, false),
-        ArmOp::Sxtb => row!(b"ARMSXTB", b"", Alone, Some(1), None, Word, false, false),
-        ArmOp::Sxth => row!(b"ARMSXTH", b"", Alone, Some(1), None, Word, false, false),
-        ArmOp::Uxtb => row!(b"ARMUXTB", b"", Alone, Some(1), None, Word, false, false),
-        ArmOp::Uxth => row!(b"ARMUXTH", b"", Alone, Some(1), None, Word, false, false),
-        ArmOp::Zmask => row!(b"ARMZMASK", b"", Alone, Some(1), None, Word, false, false),
-        ArmOp::Ctz => row!(b"ARMCTZ", b"", Alone, Some(1), None, Word, false, false),
-        ArmOp::Blen => row!(b"ARMBLEN", b"", Alone, Some(1), None, Word, false, false),
-        ArmOp::Sel => row!(b"ARMSEL", b"", Alone, Some(3), None, Word, false, false),
-        ArmOp::AddHi => row!(b"ARMADDHI", b"", Alone, Some(4), None, Word, false, false),
-        ArmOp::SubHi => row!(b"ARMSUBHI", b"", Alone, Some(4), None, Word, false, false),
-        ArmOp::Addi => row!(b"ARMADDI", b"", Alone, Some(1), Int, Word, false, false),
-        ArmOp::Subi => row!(b"ARMSUBI", b"", Alone, Some(1), Int, Word, false, false),
-        ArmOp::Andi => row!(b"ARMANDI", b"", Alone, Some(1), Int, Word, false, false),
-        ArmOp::Eori => row!(b"ARMEORI", b"", Alone, Some(1), Int, Word, false, false),
-        ArmOp::Lsli => row!(b"ARMLSLI", b"", Alone, Some(1), Int, Word, false, false),
-        ArmOp::Lsri => row!(b"ARMLSRI", b"", Alone, Some(1), Int, Word, false, false),
-        ArmOp::Asri => row!(b"ARMASRI", b"", Alone, Some(1), Int, Word, false, false),
-        ArmOp::Load => row!(b"ARMLOAD", b"", UpTo4, Some(2), Int, Word, false, true),
-        ArmOp::Store => row!(b"ARMSTORE", b"", UpTo4, Some(3), Int, Mem, false, true),
-        ArmOp::StoreB => row!(b"ARMSTOREB", b"", Alone, Some(3), Int, Mem, false, true),
-        ArmOp::Zero => row!(b"ARMZERO", b"", Alone, Some(2), Int, Mem, false, true),
-        ArmOp::Move => row!(b"ARMMOVE", b"", Alone, Some(3), Int, Mem, false, true),
-        ArmOp::Nil => row!(b"ARMNIL", b"", Alone, Some(2), None, Void, false, true),
+        ArmOp::Const => entry(b"ARMCONST", b"", Alone, Some(0), AuxKind::Int, Word, false, false),
+        ArmOp::Addr => entry(b"ARMADDR", b"", Alone, Some(0), AuxKind::Name, Word, false, false),
+        ArmOp::Add => entry(b"ARMADD", b"", Alone, Some(2), AuxKind::None, Word, true, false),
+        ArmOp::Sub => entry(b"ARMSUB", b"", Alone, Some(2), AuxKind::None, Word, false, false),
+        ArmOp::Mul => entry(b"ARMMUL", b"", Alone, Some(2), AuxKind::None, Word, false, false),
+        ArmOp::And => entry(b"ARMAND", b"", Alone, Some(2), AuxKind::None, Word, true, false),
+        ArmOp::Orr => entry(b"ARMORR", b"", Alone, Some(2), AuxKind::None, Word, true, false),
+        ArmOp::Eor => entry(b"ARMEOR", b"", Alone, Some(2), AuxKind::None, Word, true, false),
+        ArmOp::Smulh => entry(b"ARMSMULH", b"", Alone, Some(2), AuxKind::None, Word, false, false),
+        ArmOp::Umulh => entry(b"ARMUMULH", b"", Alone, Some(2), AuxKind::None, Word, false, false),
+        ArmOp::Sdiv => entry(b"ARMSDIV", b"", Alone, Some(2), AuxKind::None, Word, false, false),
+        ArmOp::Udiv => entry(b"ARMUDIV", b"", Alone, Some(2), AuxKind::None, Word, false, false),
+        ArmOp::Smod => entry(b"ARMSMOD", b"", Alone, Some(2), AuxKind::None, Word, false, false),
+        ArmOp::Umod => entry(b"ARMUMOD", b"", Alone, Some(2), AuxKind::None, Word, false, false),
+        ArmOp::Lsl => entry(b"ARMLSL", b"", Alone, Some(2), AuxKind::None, Word, false, false),
+        ArmOp::Lsr => entry(b"ARMLSR", b"", Alone, Some(2), AuxKind::None, Word, false, false),
+        ArmOp::Asr => entry(b"ARMASR", b"", Alone, Some(2), AuxKind::None, Word, false, false),
+        ArmOp::SetEq => entry(b"ARMSETEQ", b"", Alone, Some(2), AuxKind::None, Word, false, false),
+        ArmOp::SetNe => entry(b"ARMSETNE", b"", Alone, Some(2), AuxKind::None, Word, false, false),
+        ArmOp::SetLt => entry(b"ARMSETLT", b"", Alone, Some(2), AuxKind::None, Word, false, false),
+        ArmOp::SetLe => entry(b"ARMSETLE", b"", Alone, Some(2), AuxKind::None, Word, false, false),
+        ArmOp::SetLo => entry(b"ARMSETLO", b"", Alone, Some(2), AuxKind::None, Word, false, false),
+        ArmOp::SetLs => entry(b"ARMSETLS", b"", Alone, Some(2), AuxKind::None, Word, false, false),
+        ArmOp::Rotl => entry(b"ARMROTL", b"", Alone, Some(2), AuxKind::None, Word, false, false),
+        ArmOp::Rsb0 => entry(b"ARMRSB0", b"", Alone, Some(1), AuxKind::None, Word, false, false),
+        ArmOp::Mvn => entry(b"ARMMVN", b"", Alone, Some(1), AuxKind::None, Word, false, false),
+        ArmOp::Sxtb => entry(b"ARMSXTB", b"", Alone, Some(1), AuxKind::None, Word, false, false),
+        ArmOp::Sxth => entry(b"ARMSXTH", b"", Alone, Some(1), AuxKind::None, Word, false, false),
+        ArmOp::Uxtb => entry(b"ARMUXTB", b"", Alone, Some(1), AuxKind::None, Word, false, false),
+        ArmOp::Uxth => entry(b"ARMUXTH", b"", Alone, Some(1), AuxKind::None, Word, false, false),
+        ArmOp::Zmask => entry(b"ARMZMASK", b"", Alone, Some(1), AuxKind::None, Word, false, false),
+        ArmOp::Ctz => entry(b"ARMCTZ", b"", Alone, Some(1), AuxKind::None, Word, false, false),
+        ArmOp::Blen => entry(b"ARMBLEN", b"", Alone, Some(1), AuxKind::None, Word, false, false),
+        ArmOp::Sel => entry(b"ARMSEL", b"", Alone, Some(3), AuxKind::None, Word, false, false),
+        ArmOp::AddHi => entry(b"ARMADDHI", b"", Alone, Some(4), AuxKind::None, Word, false, false),
+        ArmOp::SubHi => entry(b"ARMSUBHI", b"", Alone, Some(4), AuxKind::None, Word, false, false),
+        ArmOp::Addi => entry(b"ARMADDI", b"", Alone, Some(1), AuxKind::Int, Word, false, false),
+        ArmOp::Subi => entry(b"ARMSUBI", b"", Alone, Some(1), AuxKind::Int, Word, false, false),
+        ArmOp::Andi => entry(b"ARMANDI", b"", Alone, Some(1), AuxKind::Int, Word, false, false),
+        ArmOp::Eori => entry(b"ARMEORI", b"", Alone, Some(1), AuxKind::Int, Word, false, false),
+        ArmOp::Lsli => entry(b"ARMLSLI", b"", Alone, Some(1), AuxKind::Int, Word, false, false),
+        ArmOp::Lsri => entry(b"ARMLSRI", b"", Alone, Some(1), AuxKind::Int, Word, false, false),
+        ArmOp::Asri => entry(b"ARMASRI", b"", Alone, Some(1), AuxKind::Int, Word, false, false),
+        ArmOp::Load => entry(b"ARMLOAD", b"", UpTo4, Some(2), AuxKind::Int, Word, false, true),
+        ArmOp::Store => entry(b"ARMSTORE", b"", UpTo4, Some(3), AuxKind::Int, Mem, false, true),
+        ArmOp::StoreB => entry(b"ARMSTOREB", b"", Alone, Some(3), AuxKind::Int, Mem, false, true),
+        ArmOp::Zero => entry(b"ARMZERO", b"", Alone, Some(2), AuxKind::Int, Mem, false, true),
+        ArmOp::Move => entry(b"ARMMOVE", b"", Alone, Some(3), AuxKind::Int, Mem, false, true),
+        ArmOp::Nil => entry(b"ARMNIL", b"", Alone, Some(2), AuxKind::None, Void, false, true),
     }
 }
 
 /// The machine ops of riscv64.
+#[tactic(auto, unfolding(crate::specs::Table::rv_row))]
 fn rv_row_of(op: RvOp) -> Row
-    ensures head { result.head.now ≡ (rv_row op).head }
-    ensures tail { result.tail.now ≡ (rv_row op).tail }
-    ensures widths { result.widths ≡ (rv_row op).widths }
-    ensures info { result.info ≡ (rv_row op).info }
+    ensures { seen result.head.now result.tail.now result.widths result.info ≡ rv_row op }
 {
     use Class::{Mem, Void, Word};
     use Widths::{Alone, UpTo8};
     match op {
-        RvOp::Const => row!(b"RVCONST", b"", Alone, Some(0), Int, Word, false, false),
-        RvOp::Addr => row!(b"RVADDR", b"", Alone, Some(0), Name, Word, false, false),
-        RvOp::Add => row!(b"RVADD", b"", Alone, Some(2), None, Word, true, false),
-        RvOp::Sub => row!(b"RVSUB", b"", Alone, Some(2), None, Word, false, false),
-        RvOp::Mul => row!(b"RVMUL", b"", Alone, Some(2), None, Word, false, false),
-        RvOp::And => row!(b"RVAND", b"", Alone, Some(2), None, Word, true, false),
-        RvOp::Or => row!(b"RVOR", b"", Alone, Some(2), None, Word, true, false),
-        RvOp::Xor => row!(b"RVXOR", b"", Alone, Some(2), None, Word, true, false),
-        RvOp::Mulh => row!(b"RVMULH", b"", Alone, Some(2), None, Word, false, false),
-        RvOp::Mulhu => row!(b"RVMULHU", b"", Alone, Some(2), None, Word, false, false),
-        RvOp::Div => row!(b"RVDIV", b"", Alone, Some(2), None, Word, false, false),
-        RvOp::Divu => row!(b"RVDIVU", b"", Alone, Some(2), None, Word, false, false),
-        RvOp::Rem => row!(b"RVREM", b"", Alone, Some(2), None, Word, false, false),
-        RvOp::Remu => row!(b"RVREMU", b"", Alone, Some(2), None, Word, false, false),
-        RvOp::Slt => row!(b"RVSLT", b"", Alone, Some(2), None, Word, false, false),
-        RvOp::Sltu => row!(b"RVSLTU", b"", Alone, Some(2), None, Word, false, false),
-        RvOp::Lsl => row!(b"RVLSL", b"", Alone, Some(2), None, Word, false, false),
-        RvOp::Lsr => row!(b"RVLSR", b"", Alone, Some(2), None, Word, false, false),
-        RvOp::Asr => row!(b"RVASR", b"", Alone, Some(2), None, Word, false, false),
-        RvOp::Rotl => row!(b"RVROTL", b"", Alone, Some(2), None, Word, false, false),
-        RvOp::Neg => row!(b"RVNEG", b"", Alone, Some(1), None, Word, false, false),
-        RvOp::Seqz => row!(b"RVSEQZ", b"", Alone, Some(1), None, Word, false, false),
-        RvOp::Snez => row!(b"RVSNEZ", b"", Alone, Some(1), None, Word, false, false),
-        RvOp::Sel => row!(b"RVSEL", b"", Alone, Some(3), None, Word, false, false),
-        RvOp::Addi => row!(b"RVADDI", b"", Alone, Some(1), Int, Word, false, false),
-        RvOp::Andi => row!(b"RVANDI", b"", Alone, Some(1), Int, Word, false, false),
-        RvOp::Ori => row!(b"RVORI", b"", Alone, Some(1), Int, Word, false, false),
-        RvOp::Xori => row!(b"RVXORI", b"", Alone, Some(1), Int, Word, false, false),
-        RvOp::Slli => row!(b"RVSLLI", b"", Alone, Some(1), Int, Word, false, false),
-        RvOp::Srli => row!(b"RVSRLI", b"", Alone, Some(1), Int, Word, false, false),
-        RvOp::Srai => row!(b"RVSRAI", b"", Alone, Some(1), Int, Word, false, false),
-        RvOp::Load => row!(b"RVLOAD", b"", UpTo8, Some(2), Int, Word, false, true),
-        RvOp::Store => row!(b"RVSTORE", b"", UpTo8, Some(3), Int, Mem, false, true),
-        RvOp::StoreB => row!(b"RVSTOREB", b"", Alone, Some(3), Int, Mem, false, true),
-        RvOp::Zero => row!(b"RVZERO", b"", Alone, Some(2), Int, Mem, false, true),
-        RvOp::Move => row!(b"RVMOVE", b"", Alone, Some(3), Int, Mem, false, true),
-        RvOp::Nil => row!(b"RVNIL", b"", Alone, Some(2), None, Void, false, true),
+        RvOp::Const => entry(b"RVCONST", b"", Alone, Some(0), AuxKind::Int, Word, false, false),
+        RvOp::Addr => entry(b"RVADDR", b"", Alone, Some(0), AuxKind::Name, Word, false, false),
+        RvOp::Add => entry(b"RVADD", b"", Alone, Some(2), AuxKind::None, Word, true, false),
+        RvOp::Sub => entry(b"RVSUB", b"", Alone, Some(2), AuxKind::None, Word, false, false),
+        RvOp::Mul => entry(b"RVMUL", b"", Alone, Some(2), AuxKind::None, Word, false, false),
+        RvOp::And => entry(b"RVAND", b"", Alone, Some(2), AuxKind::None, Word, true, false),
+        RvOp::Or => entry(b"RVOR", b"", Alone, Some(2), AuxKind::None, Word, true, false),
+        RvOp::Xor => entry(b"RVXOR", b"", Alone, Some(2), AuxKind::None, Word, true, false),
+        RvOp::Mulh => entry(b"RVMULH", b"", Alone, Some(2), AuxKind::None, Word, false, false),
+        RvOp::Mulhu => entry(b"RVMULHU", b"", Alone, Some(2), AuxKind::None, Word, false, false),
+        RvOp::Div => entry(b"RVDIV", b"", Alone, Some(2), AuxKind::None, Word, false, false),
+        RvOp::Divu => entry(b"RVDIVU", b"", Alone, Some(2), AuxKind::None, Word, false, false),
+        RvOp::Rem => entry(b"RVREM", b"", Alone, Some(2), AuxKind::None, Word, false, false),
+        RvOp::Remu => entry(b"RVREMU", b"", Alone, Some(2), AuxKind::None, Word, false, false),
+        RvOp::Slt => entry(b"RVSLT", b"", Alone, Some(2), AuxKind::None, Word, false, false),
+        RvOp::Sltu => entry(b"RVSLTU", b"", Alone, Some(2), AuxKind::None, Word, false, false),
+        RvOp::Lsl => entry(b"RVLSL", b"", Alone, Some(2), AuxKind::None, Word, false, false),
+        RvOp::Lsr => entry(b"RVLSR", b"", Alone, Some(2), AuxKind::None, Word, false, false),
+        RvOp::Asr => entry(b"RVASR", b"", Alone, Some(2), AuxKind::None, Word, false, false),
+        RvOp::Rotl => entry(b"RVROTL", b"", Alone, Some(2), AuxKind::None, Word, false, false),
+        RvOp::Neg => entry(b"RVNEG", b"", Alone, Some(1), AuxKind::None, Word, false, false),
+        RvOp::Seqz => entry(b"RVSEQZ", b"", Alone, Some(1), AuxKind::None, Word, false, false),
+        RvOp::Snez => entry(b"RVSNEZ", b"", Alone, Some(1), AuxKind::None, Word, false, false),
+        RvOp::Sel => entry(b"RVSEL", b"", Alone, Some(3), AuxKind::None, Word, false, false),
+        RvOp::Addi => entry(b"RVADDI", b"", Alone, Some(1), AuxKind::Int, Word, false, false),
+        RvOp::Andi => entry(b"RVANDI", b"", Alone, Some(1), AuxKind::Int, Word, false, false),
+        RvOp::Ori => entry(b"RVORI", b"", Alone, Some(1), AuxKind::Int, Word, false, false),
+        RvOp::Xori => entry(b"RVXORI", b"", Alone, Some(1), AuxKind::Int, Word, false, false),
+        RvOp::Slli => entry(b"RVSLLI", b"", Alone, Some(1), AuxKind::Int, Word, false, false),
+        RvOp::Srli => entry(b"RVSRLI", b"", Alone, Some(1), AuxKind::Int, Word, false, false),
+        RvOp::Srai => entry(b"RVSRAI", b"", Alone, Some(1), AuxKind::Int, Word, false, false),
+        RvOp::Load => entry(b"RVLOAD", b"", UpTo8, Some(2), AuxKind::Int, Word, false, true),
+        RvOp::Store => entry(b"RVSTORE", b"", UpTo8, Some(3), AuxKind::Int, Mem, false, true),
+        RvOp::StoreB => entry(b"RVSTOREB", b"", Alone, Some(3), AuxKind::Int, Mem, false, true),
+        RvOp::Zero => entry(b"RVZERO", b"", Alone, Some(2), AuxKind::Int, Mem, false, true),
+        RvOp::Move => entry(b"RVMOVE", b"", Alone, Some(3), AuxKind::Int, Mem, false, true),
+        RvOp::Nil => entry(b"RVNIL", b"", Alone, Some(2), AuxKind::None, Void, false, true),
     }
 }
 
@@ -348,6 +357,7 @@ impl Widths {
 }
 
 /// What the op table says of the op. An op that no name has takes and gives nothing.
+#[tactic(auto, unfolding(crate::specs::Table::info_of, crate::specs::Table::is_op))]
 pub fn op_info(op: Op) -> OpInfo
     ensures { result ≡ info_of op }
 {
