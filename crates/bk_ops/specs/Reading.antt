@@ -1,5 +1,5 @@
 -- How a name is taken apart.
-use Rattle.std.specs.Prelude.{ℕ, Bool, true, false, ◌==◌, ◌&&◌, ◌||◌, if◌then◌else◌, List, [], ◌∷◌, ◌++◌, length, Option, Some, None, codes, bytes_eq}
+use Rattle.std.specs.Prelude.{ℕ, Bool, true, false, ◌==◌, ◌&&◌, ◌||◌, if◌then◌else◌, List, [], ◌∷◌, ◌++◌, length, take, drop, Option, Some, None, bytes_eq, nat_le, position}
 use Rattle.std.specs.List.{find}
 use Rattle.bk_ops.specs.declared.family.Family.{Family}
 use Rattle.bk_ops.specs.declared.family.Family.TheVariants.{Const, ConstBool, ConstNil, Add, Sub, Mul, And, Or, Xor, Neg, Com, Div, Divu, Mod, Modu, Hmul, Hmulu, Lsh, Rsh, RshU, Eq, Neq, Less, LessU, Leq, LeqU, EqB, NeqB, AndB, OrB, Not, EqPtr, NeqPtr, IsNonNil, IsInBounds, IsSliceInBounds, SignExt, ZeroExt, Trunc, CvtBoolToUint8, Signmask, Zeromask, Ctz32, BitLen32, RotateLeft, CondSelect, AddPtr, SubPtr, OffPtr, Int64Make, Int64Hi, Int64Lo, AddHi32, SubHi32, Phi, Copy, Arg, InitMem, Sp, Sb, Addr, Load, Store, Zero, Move, NilCheck, PanicBounds, StaticLECall, SelectN, MakeResult, ArgWord, ResWord, OutWord, RetWord, Call, Trap, Arm, Rv}
@@ -25,3 +25,65 @@ families_of n =
     else if n == 13 then CvtBoolToUint8 ∷ []
     else if n == 15 then IsSliceInBounds ∷ []
     else []
+
+-- the digits 1 to 9: the first byte of a width, and no byte of a head or a tail
+unfoldable pub begins_width : ℕ → Bool
+begins_width c = nat_le 49 c && nat_le c 57
+
+abbrev pub front_to : Option ℕ → List ℕ → List ℕ
+front_to None n = n
+front_to (Some k) n = take k n
+
+abbrev pub back_from : Option ℕ → List ℕ → List ℕ
+back_from None n = []
+back_from (Some k) n = drop k n
+
+-- the text before the first width
+unfoldable pub front : List ℕ → List ℕ
+front n = front_to (position begins_width n) n
+
+-- the text from the first width on
+unfoldable pub back : List ℕ → List ℕ
+back n = back_from (position begins_width n) n
+
+abbrev pub one_digit : ℕ → List ℕ → ℕ × List ℕ
+one_digit c n =
+    if c == 49 then (1, n)
+    else if c == 50 then (2, n)
+    else if c == 52 then (4, n)
+    else if c == 56 then (8, n)
+    else (0, c ∷ n)
+
+abbrev pub two_digits : ℕ → ℕ → List ℕ → ℕ × List ℕ
+two_digits c d n =
+    if c == 49 && d == 54 then (16, n)
+    else if c == 51 && d == 50 then (32, n)
+    else if c == 54 && d == 52 then (64, n)
+    else one_digit c (d ∷ n)
+
+-- the width at the front of a text and the text behind it; 0 where there is none
+unfoldable pub width_at : List ℕ → ℕ × List ℕ
+width_at [] = (0, [])
+width_at (c ∷ []) = one_digit c []
+width_at (c ∷ d ∷ n) = two_digits c d n
+
+unfoldable pub is_spelt : Family → List ℕ → List ℕ → Bool
+is_spelt f h t = bytes_eq (row f 0 0).head h && bytes_eq (row f 0 0).tail t
+
+-- the family with this head and this tail
+unfoldable pub family_of : List ℕ → List ℕ → Option Family
+family_of h t = find (λ f. is_spelt f h t) (families_of (length h))
+
+abbrev pub op_at : Option Family → ℕ → ℕ → List ℕ → Option Op
+op_at None a b n = None
+op_at (Some f) a b n = if length n == 0 && is_op f a b then Some (record { family = f; a = a; b = b }) else None
+
+abbrev pub with_second : List ℕ → ℕ → List ℕ → ℕ × List ℕ → Option Op
+with_second h a t w = op_at (family_of h t) a w.0 w.1
+
+abbrev pub with_first : List ℕ → ℕ × List ℕ → Option Op
+with_first h w = with_second h w.0 (front w.1) (width_at (back w.1))
+
+-- the op that a name spells
+unfoldable pub read : List ℕ → Option Op
+read n = with_first (front n) (width_at (back n))
