@@ -2,3 +2,4 @@ pub mod Lines
 pub mod Words
 pub mod Decimal
 pub mod Narrow
+pub mod Reading
