@@ -1,10 +1,17 @@
 -- Lines cut from a text, and a text spelled by lines.
-use Rattle.std.proofs.Common.{◌≡◌, ℕ, zero, suc, ◌+◌, ◌<◌, ◌≤◌, List, [], ◌∷◌, ◌++◌, length, take, drop, ap, ◌∙◌, sym, subst, refl, arith, Bool, true, false, cond, Option, Some, None, map, replicate, ◌⊎◌, inl, inr}
+use Rattle.std.proofs.Common.{◌≡◌, ℕ, zero, suc, ◌+◌, ◌-◌, min, ⊎_elim, ◌<◌, ◌≤◌, List, [], ◌∷◌, ◌++◌, length, take, drop, ap, ◌∙◌, sym, subst, refl, arith, Bool, true, false, cond, Option, Some, None, map, replicate, ◌⊎◌, inl, inr}
 use Rattle.std.specs.Prelude.{◌==◌, not}
 use Rattle.std.specs.List.{prefix_len, position_or_len, onto_first, AllByRecursion}
 use Rattle.std.proofs.lemmas.Bool.Decides.{nat_tests}
-use Rattle.std.proofs.lemmas.List.{drop_all}
+use Rattle.std.proofs.lemmas.List.{drop_all, take_all, length-drop}
+use Rattle.std.proofs.lemmas.Bool.{cases_lt}
 use Rattle.bk_top.specs.Lines.{cut, line_len, spaces, unindented, lines, first_line, Spells}
+
+grown : (c : ℕ) (xs : List ℕ) (n : ℕ) → (c ∷ take n xs) ∷ cut (drop (n + 1) xs) ≡ take (1 + n) (c ∷ xs) ∷ cut (drop (1 + n + 1) (c ∷ xs))
+grown c xs n =
+  let q : 1 + n ≡ suc n = omega arith in
+  let r : 1 + n + 1 ≡ suc (n + 1) = omega arith in
+  rw (r, q) refl
 
 -- a text is its first line and the others
 cut_step : (c : ℕ) (cs : List ℕ) (b : Bool) → (c == 10) ≡ b → (0 < length cs → cut cs ≡ take (line_len cs) cs ∷ cut (drop (line_len cs + 1) cs))
@@ -12,11 +19,7 @@ cut_step : (c : ℕ) (cs : List ℕ) (b : Bool) → (c == 10) ≡ b → (0 < len
 unfolding cut
 cut_step c cs true e h = refl
 cut_step c [] false e h = refl
-cut_step c (d ∷ ds) false e h =
-  let q : suc (line_len (d ∷ ds)) ≡ 1 + line_len (d ∷ ds) = omega arith in
-  let r : suc (suc (line_len (d ∷ ds))) ≡ 1 + line_len (d ∷ ds) + 1 = omega arith in
-  let s : suc (line_len (d ∷ ds)) ≡ line_len (d ∷ ds) + 1 = omega arith in
-  ap (onto_first c) (h (omega arith)) ∙ rw (← q, ← r, s) refl
+cut_step c (d ∷ ds) false e h = ap (onto_first c) (h (omega arith)) ∙ grown c (d ∷ ds) (line_len (d ∷ ds))
 
 pub cut_first : (text : List ℕ) → 0 < length text → cut text ≡ take (line_len text) text ∷ cut (drop (line_len text + 1) text)
 unfolding cut
@@ -31,3 +34,20 @@ pub no_lines : (text : List ℕ) → length text ≡ 0 → lines text ≡ []
 unfolding lines cut
 no_lines [] h = refl
 no_lines (c ∷ cs) h = absurd (omega arith)
+
+whole : (xs : List ℕ) (s : ℕ) → take (length xs - s) (drop s xs) ≡ drop s xs
+whole xs s = take_all (length xs - s) (drop s xs) (omega (arith, length-drop s xs))
+
+drop_min : (n : ℕ) (xs : List ℕ) → drop (min (length xs) n) xs ≡ drop n xs
+drop_min n xs = ⊎_elim (λ h. let e : min (length xs) n ≡ n = omega arith in ap (λ k. drop k xs) e) (λ h. let e : min (length xs) n ≡ length xs = omega arith in ap (λ k. drop k xs) e ∙ drop_all (length xs) xs (omega arith) ∙ sym (drop_all n xs h)) (cases_lt n (length xs))
+
+-- the first line as it is cut out of the text
+pub next_is : (text : List ℕ) (end count start : ℕ) → 0 < length text → end ≡ line_len text → count ≡ spaces (take end text) → start ≡ min (length text) (end + 1)
+  → Some (take (length (take end text) - count) (drop count (take end text)), lines (take (length text - start) (drop start text))) ≡ first_line (lines text)
+unfolding unindented
+next_is text end count start h e f g =
+  ap (λ t. Some (t, lines (take (length text - start) (drop start text)))) (whole (take end text) count)
+  ∙ ap (λ k. Some (drop k (take end text), lines (take (length text - start) (drop start text)))) f
+  ∙ ap (λ t. Some (unindented (take end text), lines t)) (whole text start ∙ ap (λ k. drop k text) g ∙ drop_min (end + 1) text)
+  ∙ ap (λ k. Some (unindented (take k text), lines (drop (k + 1) text))) e
+  ∙ sym (next_lines text h)

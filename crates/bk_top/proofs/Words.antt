@@ -48,3 +48,11 @@ bind_some (Some x) f y h = (x, refl, h)
 pub at_end_takes : {A : Type 0} (text : List ℕ) (o : Option A) (y : A) → at_end text o ≡ Some y → (text ≡ []) × (o ≡ Some y)
 at_end_takes [] o y h = (refl, h)
 at_end_takes (c ∷ text) o y h = absurd (cc)
+
+pub at_end_some : {A : Type 0} (text : List ℕ) (o : Option A) → length text ≡ 0 → at_end text o ≡ o
+at_end_some [] o h = refl
+at_end_some (c ∷ text) o h = absurd (omega arith)
+
+pub at_end_none : {A : Type 0} (text : List ℕ) (o : Option A) → (length text ≡ 0 → ⊥) → at_end text o ≡ None
+at_end_none [] o h = absurd (h refl)
+at_end_none (c ∷ text) o h = refl

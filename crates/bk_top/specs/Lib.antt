@@ -1,6 +1,7 @@
 pub mod Lines
 pub mod Words
 pub mod Decimal
+pub mod Reading
 pub mod Narrow
 pub mod Meaning
 pub mod Code

@@ -9,7 +9,7 @@ use std::collections::HashSet;
 
 use crate::narrow::package::{Function, Value};
 use crate::narrow::header::{Header, read_header};
-use crate::narrow::body::{is_return, read_result, read_value};
+use crate::narrow::body::{read_result, read_return, read_value};
 use crate::text::line::next_line;
 
 /// The most values of a function.
@@ -43,7 +43,8 @@ fn read_ending(text: &[u8], count: u8) -> Option<(u8, &[u8])> {
     let (line, rest) = next_line(text)?;
     let result = read_result(line, count)?;
     let (line, rest) = next_line(rest)?;
-    if is_return(line, count) { Some((result, rest)) } else { None }
+    read_return(line, count)?;
+    Some((result, rest))
 }
 
 /// The first function, and the text behind its lines.

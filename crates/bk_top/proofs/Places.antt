@@ -1,0 +1,38 @@
+-- Places of names in a list.
+use Rattle.std.proofs.Common.{◌≡◌, ℕ, ◌+◌, ◌<◌, ◌≤◌, List, [], ◌∷◌, length, ap, ◌∙◌, sym, refl, arith, get_or, Bool, true, false, cond, Option, Some, None, map}
+use Rattle.std.specs.Prelude.{nat_lt, position, not}
+use Rattle.std.specs.List.{prefix_len, position_or_len}
+use Rattle.std.specs.Str.{bytes_eq}
+use Rattle.std.proofs.lemmas.Bool.Decides.{nat_tests}
+use Rattle.std.proofs.lemmas.List.Quantifiers.{position-Some}
+use Rattle.std.proofs.lemmas.List.Sums.{position_or_len_is}
+use Rattle.std.proofs.lemmas.List.{length-map}
+use Rattle.std.proofs.lemmas.Slice.Eq.{bytes_eq-Decides}
+use Rattle.bk_top.specs.Narrow.{Differ}
+use Rattle.bk_top.specs.Reading.{place_of}
+
+prefix_len-map : {X Y : Type 0} (f : X → Y) (p : Y → Bool) (xs : List X) → prefix_len p (map f xs) ≡ prefix_len (λ x. p (f x)) xs
+prefix_len-map f p [] = refl
+prefix_len-map f p (x ∷ xs) = ap (λ n. cond (p (f x)) (1 + n) 0) (prefix_len-map f p xs)
+
+pub position-map : {X Y : Type 0} (f : X → Y) (p : Y → Bool) (xs : List X) → position p (map f xs) ≡ position (λ x. p (f x)) xs
+position-map f p xs =
+  ap (λ n. cond (nat_lt n (length (map f xs))) (Some n) None) (prefix_len-map f (λ y. not (p y)) xs)
+  ∙ ap (λ l. cond (nat_lt (position_or_len (λ x. p (f x)) xs) l) (Some (position_or_len (λ x. p (f x)) xs)) None) (length-map xs f)
+
+pub place_takes : (name : List ℕ) (names : List (List ℕ)) (a : ℕ) → place_of name names ≡ Some a → (a < length names) × (get_or names a [] ≡ name)
+place_takes name names a h =
+  let p = position-Some (λ n. bytes_eq n name) names a [] h in
+  (p.0, (bytes_eq-Decides (get_or names a []) name).0 p.1)
+
+not_true : (b : Bool) → (b ≡ true → ⊥) → b ≡ false
+not_true true h = absurd (h refl)
+not_true false h = refl
+
+found_place : (n l a : ℕ) → n ≡ a → a < l → cond (nat_lt n l) (Some n) None ≡ Some a
+found_place n l a e h = grind (arith, nat_tests)
+
+pub place_again : (names : List (List ℕ)) (a : ℕ) → Differ names → a < length names → place_of (get_or names a []) names ≡ Some a
+place_again names a d h =
+  let same = bytes_eq-Decides in
+  found_place _ (length names) a (position_or_len_is (λ n. bytes_eq n (get_or names a [])) names a [] (omega arith) (λ k l. not_true _ (λ e. d k a [] l h ((bytes_eq-Decides (get_or names k []) (get_or names a [])).0 e))) (λ l. (bytes_eq-Decides (get_or names a []) (get_or names a [])).1 refl)) h
