@@ -1,0 +1,16 @@
+use Rattle.std.proofs.Common.{◌≡◌, ◌-◌, ◌+◌, ◌∙◌, sym, ap, arith}
+use Rattle.bk_rv_isa.specs.Machine.{run, go_on}
+use Rattle.bk_rv_sim.specs.View.{view, ended}
+use Rattle.bk_rv_sim.proofs.Runs.{run_more}
+use Rattle.bk_rv_sim.proofs.steps.run.Goals as goal
+
+pub returns-in-Some : goal.returns-in-Some
+returns-in-Some c =
+    ap (λ g. ended (go_on g (run (c.args.bound - (c.loop-step._step + 1))))) c.in-Some.ensures
+    ∙ ap ended (sym (run_more c.args.bound c.loop-step._step (view c.loop-step.machine) (omega arith)) ∙ c.loop-step.invariant)
+
+pub loop-step-preserved : goal.loop-step-preserved
+loop-step-preserved c =
+    ap (λ g. go_on g (run (c.args.bound - (c.loop-step._step + 1)))) c.in_default.ensures
+    ∙ sym (run_more c.args.bound c.loop-step._step (view c.loop-step.machine) (omega arith))
+    ∙ c.loop-step.invariant

@@ -1,0 +1,28 @@
+ghost use Rattle.std.specs.Prelude.{◌≡◌, ◌≤◌, ◌+◌, length};
+
+/// A machine: its registers, its text and its three windows of bytes.
+///
+/// The text begins at 65,536, the pool at 33,554,432, the data window at 67,108,864 and the stack
+/// at `bottom`.
+#[derive(Drop)]
+pub struct Machine {
+    /// The registers x0 to x31.
+    pub regs: Vec<u64>,
+    /// The address of the next instruction.
+    pub pc: u64,
+    /// The words of the text.
+    pub text: Vec<u32>,
+    /// The constants, which are only read.
+    pub pool: Vec<u8>,
+    /// The data window.
+    pub window: Vec<u8>,
+    /// The stack, and above it the words of the arguments and results.
+    pub stack: Vec<u8>,
+    /// The address of the first stack byte.
+    pub bottom: u64,
+    ghost registers: { length regs.items ≡ 32 },
+    ghost text_fits: { length text.items ≤ 4194304 },
+    ghost pool_fits: { 33554432 + length pool.items ≤ 67108864 },
+    ghost window_fits: { 67108864 + length window.items ≤ bottom },
+    ghost bottom_fits: { bottom ≤ 536870912 },
+}

@@ -1,0 +1,207 @@
+ghost use Rattle.std.specs.Prelude.{◌≡◌, ◌≤◌, ◌<◌, ◌^◌, ◌+◌, length, Some, None, IsSome};
+ghost use Rattle.bk_rv_isa.specs.declared.inst.Inst.TheVariants.{Ebreak};
+ghost use Rattle.bk_rv_isa.specs.Machine.{reg, put, fetch, load, load_size, load_result, store_size, with_reg, on_load, on_store, store, act, step, run};
+ghost use Rattle.bk_rv_sim.specs.View.{view, ended};
+
+use crate::machine::Machine;
+use crate::memory::{load_in, store_in};
+use crate::results::{
+    extended, immediate_result, is_taken, load_result, load_size, plus, register_result,
+    shift_result, store_size,
+};
+use bk_num::residue;
+use bk_rv_isa::{Inst, LoadOp, Stop, StoreOp, decode};
+
+const TEXT_BASE: u64 = 65_536;
+const POOL_BASE: u64 = 33_554_432;
+const DATA_BASE: u64 = 67_108_864;
+const HALT: u64 = 61_440;
+
+fn reg(regs: &[u64], k: u8) -> u64
+    ensures { result ≡ reg regs.now k }
+{
+    if k == 0 {
+        return 0;
+    }
+    match regs.get(k as usize) {
+        Some(n) => *n,
+        None => 0,
+    }
+}
+
+fn put(regs: &mut [u64], k: u8, n: u64)
+    ensures { regs.new ≡ put regs.old k n }
+{
+    if k != 0 && (k as usize) < regs.len() {
+        regs[k as usize] = n;
+    }
+}
+
+fn fetch(text: &[u32], pc: u64) -> Option<Inst>
+    requires { length text.now ≤ 4194304 }
+    ensures value { result ≡ fetch text.now pc }
+    ensures pc { IsSome result → pc < 2 ^ 32 }
+{
+    if pc < TEXT_BASE || pc % 4 != 0 {
+        return None;
+    }
+    let word = text.get(((pc - TEXT_BASE) / 4) as usize)?;
+    decode(*word)
+}
+
+#[tactic(auto, unfolding(bk_rv_isa::specs::Machine::read))]
+fn load(machine: &Machine, size: usize, address: u64) -> Option<u64>
+    requires { size ≤ 8 }
+    ensures { result ≡ load (view machine.now) size address }
+{
+    if let Some(n) = load_in(POOL_BASE, &machine.pool, size, address) {
+        return Some(n);
+    }
+    if let Some(n) = load_in(DATA_BASE, &machine.window, size, address) {
+        return Some(n);
+    }
+    load_in(machine.bottom, &machine.stack, size, address)
+}
+
+// A register and the next pc.
+fn set(machine: &mut Machine, rd: u8, n: u64)
+    requires { machine.old.pc < 2 ^ 32 }
+    ensures { view machine.new ≡ with_reg (view machine.old) rd n }
+{
+    put(&mut machine.regs, rd, n);
+    machine.pc += 4;
+}
+
+fn load_register(machine: &mut Machine, op: LoadOp, rd: u8, address: u64) -> Option<Stop>
+    requires { machine.old.pc < 2 ^ 32 }
+    ensures { (result, view machine.new) ≡ on_load (view machine.old) address (load (view machine.old) (load_size op) address) (λ n. with_reg (view machine.old) rd (load_result op n)) }
+{
+    match load(machine, load_size(op), address) {
+        Some(n) => {
+            set(machine, rd, load_result(op, n));
+            None
+        }
+        None => Some(Stop::Fault(address)),
+    }
+}
+
+#[tactic(auto, unfolding(bk_rv_isa::specs::Machine::write))]
+fn store_register(machine: &mut Machine, op: StoreOp, address: u64, n: u64) -> Option<Stop>
+    requires { machine.old.pc < 2 ^ 32 }
+    ensures { (result, view machine.new) ≡ on_store (view machine.old) address (store (view machine.old) (store_size op) address n) }
+{
+    let size = store_size(op);
+    if store_in(DATA_BASE, &mut machine.window, size, address, n)
+        || store_in(machine.bottom, &mut machine.stack, size, address, n)
+    {
+        machine.pc += 4;
+        None
+    } else {
+        Some(Stop::Fault(address))
+    }
+}
+
+// EBREAK traps with a number from 1 to 6 in x31.
+fn trap(machine: &Machine) -> Stop
+    ensures { (Some result, view machine.now) ≡ act Ebreak (view machine.now) }
+{
+    let cause = reg(&machine.regs, 31);
+    if cause >= 1 && cause <= 6 {
+        Stop::Trapped(cause as u8)
+    } else {
+        Stop::Fault(machine.pc)
+    }
+}
+
+// One instruction.
+fn act(machine: &mut Machine, inst: Inst) -> Option<Stop>
+    requires { machine.old.pc < 2 ^ 32 }
+    ensures { (result, view machine.new) ≡ act inst (view machine.old) }
+{
+    match inst {
+        Inst::Op(op, rd, rs1, rs2) => {
+            let n = register_result(op, reg(&machine.regs, rs1), reg(&machine.regs, rs2));
+            set(machine, rd, n);
+            None
+        }
+        Inst::OpImm(op, rd, rs1, imm) => {
+            let n = immediate_result(op, reg(&machine.regs, rs1), imm);
+            set(machine, rd, n);
+            None
+        }
+        Inst::Shift(op, rd, rs1, count) => {
+            let n = shift_result(op, reg(&machine.regs, rs1), count);
+            set(machine, rd, n);
+            None
+        }
+        Inst::Addiw(rd, rs1, imm) => {
+            let n = extended(32, plus(reg(&machine.regs, rs1), imm as i128));
+            set(machine, rd, n);
+            None
+        }
+        Inst::Load(op, rd, base, offset) => {
+            let address = plus(reg(&machine.regs, base), offset as i128);
+            load_register(machine, op, rd, address)
+        }
+        Inst::Store(op, src, base, offset) => {
+            let address = plus(reg(&machine.regs, base), offset as i128);
+            let n = reg(&machine.regs, src);
+            store_register(machine, op, address, n)
+        }
+        Inst::Branch(op, rs1, rs2, offset) => {
+            if is_taken(op, reg(&machine.regs, rs1), reg(&machine.regs, rs2)) {
+                machine.pc = plus(machine.pc, offset as i128);
+            } else {
+                machine.pc += 4;
+            }
+            None
+        }
+        Inst::Lui(rd, imm) => {
+            set(machine, rd, residue(64, imm as i128 * 4096));
+            None
+        }
+        Inst::Auipc(rd, imm) => {
+            let n = plus(machine.pc, imm as i128 * 4096);
+            set(machine, rd, n);
+            None
+        }
+        Inst::Jal(rd, offset) => {
+            let target = plus(machine.pc, offset as i128);
+            set(machine, rd, machine.pc + 4);
+            machine.pc = target;
+            None
+        }
+        Inst::Jalr(rd, base, offset) => {
+            let target = plus(reg(&machine.regs, base), offset as i128) / 2 * 2;
+            set(machine, rd, machine.pc + 4);
+            machine.pc = target;
+            None
+        }
+        Inst::Ebreak => Some(trap(machine)),
+    }
+}
+
+/// One step: the stop if there is one.
+pub fn step(machine: &mut Machine) -> Option<Stop>
+    ensures { (result, view machine.new) ≡ step (view machine.old) }
+{
+    if machine.pc == HALT {
+        return Some(Stop::Returned);
+    }
+    match fetch(&machine.text, machine.pc) {
+        Some(inst) => act(machine, inst),
+        None => Some(Stop::Fault(machine.pc)),
+    }
+}
+
+/// At most `bound` steps, up to the first stop: Going where none of them stopped.
+pub fn run(machine: &mut Machine, bound: u64) -> Stop
+    ensures { (result, view machine.new) ≡ ended (run bound (view machine.old)) }
+{
+    for _step in 0..bound {
+        if let Some(stop) = step(machine) {
+            return stop;
+        }
+    }
+    Stop::Going
+}
