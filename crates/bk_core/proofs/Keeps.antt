@@ -298,6 +298,10 @@ alone_adds f (x ∷ xs) (suc w) z h is =
     let a : f x ≡ 0 = h 0 (omega arith) in
     let b : sum_by f xs ≡ f (worker xs w) = alone_adds f xs w z (λ u. h (suc u)) (omega arith) in omega arith
 
+-- no number was drawn that who has all the parts has not
+pub all_drawn : (announced : List (List ℕ)) (parts claims : ℕ) (at : ℕ → ℕ → ℕ) (vs : List Sight) (w : ℕ) → Rule announced parts claims at vs → (worker vs w).parts ≡ parts → (x : ℕ) → times_drawn x vs ≡ count_by (λ y. y == x) (worker vs w).numbers
+all_drawn announced parts claims at vs w r all x = alone_adds (λ u. count_by (λ y. y == x) u.numbers) vs w refl (λ u e. ap (λ (l : List ℕ). count_by (λ y. y == x) l) (r.counted.idle u e).0) (r.counted.parts_add ∙ sym all)
+
 pub whole : (announced : List (List ℕ)) (parts claims : ℕ) (at : ℕ → ℕ → ℕ) (vs : List Sight) (w : ℕ) → 1 ≤ parts → Rule announced parts claims at vs → (worker vs w).parts ≡ parts → Rule announced parts claims at (worker vs w ∷ [])
 whole announced parts claims at vs w some r all = let v = worker vs w in
     let adds : (f : Sight → ℕ) → f nobody ≡ 0 → ((u : ℕ) → (worker vs u).parts ≡ 0 → f (worker vs u) ≡ 0) → sum_by f (v ∷ []) ≡ sum_by f vs = λ f z h. sum_by-cons f v [] ∙ add-zero (f v) ∙ sym (alone_adds f vs w z h (r.counted.parts_add ∙ sym all)) in

@@ -44,12 +44,12 @@ module _ (announced : List (List ℕ)) (parts : ℕ) (m : CoreState) (k : MeetsR
     sizes = λ b hb. size_same m.areas a c now b can.0.2 ∙ k.sizes b hb;
   }
 
-  pub keeps : (e : Event) → CanHappen m e → IsAnnounced announced e → MeetsRule announced parts (after m e)
-  keeps (Claim w) can ann = record { rule = draws announced parts m.claims (word_at m.areas) m.workers k.rule w can.0 can.1; sizes = k.sizes }
-  keeps (Look w a c) can ann = keeps_look w a c can
-  keeps (Take w a c key) can ann = keeps_take w a c key can ann
-  keeps (Split w) can ann = record { rule = splits announced parts m.claims (word_at m.areas) m.workers k.rule w can.0 can.1; sizes = k.sizes }
-  keeps (Join from to) can ann = record { rule = joins announced parts m.claims (word_at m.areas) m.workers k.rule to can.1.0 from can.0.0 can.2 can.1.1; sizes = k.sizes }
+  pub keeps_rule : (e : Event) → CanHappen m e → IsAnnounced announced e → MeetsRule announced parts (after m e)
+  keeps_rule (Claim w) can ann = record { rule = draws announced parts m.claims (word_at m.areas) m.workers k.rule w can.0 can.1; sizes = k.sizes }
+  keeps_rule (Look w a c) can ann = keeps_look w a c can
+  keeps_rule (Take w a c key) can ann = keeps_take w a c key can ann
+  keeps_rule (Split w) can ann = record { rule = splits announced parts m.claims (word_at m.areas) m.workers k.rule w can.0 can.1; sizes = k.sizes }
+  keeps_rule (Join from to) can ann = record { rule = joins announced parts m.claims (word_at m.areas) m.workers k.rule to can.1.0 from can.0.0 can.2 can.1.1; sizes = k.sizes }
 
 empties : (announced : List (List ℕ)) (b d : ℕ) → word_at (map (λ (keys : List ℕ). zeros (length keys + 1)) announced) b d ≡ 0
 empties [] b d = refl
@@ -74,4 +74,4 @@ starts announced parts some three = record {
 
 pub runs : (announced : List (List ℕ)) (parts : ℕ) (m : CoreState) (events : List Event) → MeetsRule announced parts m → CanRun announced m events → MeetsRule announced parts (reach_from m events)
 runs announced parts m [] k can = k
-runs announced parts m (e ∷ es) k can = runs announced parts (after m e) es (keeps announced parts m k e can.0 can.1) can.2
+runs announced parts m (e ∷ es) k can = runs announced parts (after m e) es (keeps_rule announced parts m k e can.0 can.1) can.2

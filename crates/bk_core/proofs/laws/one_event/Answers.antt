@@ -1,5 +1,5 @@
-use Rattle.bk_core.proofs.Runs.{keeps}
+use Rattle.bk_core.proofs.Runs.{keeps_rule}
 use Rattle.bk_core.proofs.laws.one_event.Goals as goal
 
 pub returns : goal.returns
-returns c = λ announced parts m e k can ann. keeps announced parts m k e can ann
+returns c = λ announced parts m e k can ann. keeps_rule announced parts m k e can ann

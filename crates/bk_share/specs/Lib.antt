@@ -1,0 +1,4 @@
+pub mod Law
+pub mod Passes
+pub mod Plan
+pub mod Steps
