@@ -8,3 +8,6 @@ mod refusal;
 mod text;
 
 pub use program::backend;
+
+#[cfg(test)]
+mod tests;
