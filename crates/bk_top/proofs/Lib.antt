@@ -1,4 +1,6 @@
 pub mod Digits
+pub mod Functions
+pub mod Headers
 pub mod Lines
 pub mod Names
 pub mod Places

@@ -1,15 +1,17 @@
 -- Places of names in a list.
-use Rattle.std.proofs.Common.{◌≡◌, ℕ, ◌+◌, ◌<◌, ◌≤◌, List, [], ◌∷◌, length, ap, ◌∙◌, sym, refl, arith, get_or, Bool, true, false, cond, Option, Some, None, map}
+use Rattle.std.proofs.Common.{◌≡◌, ℕ, ◌+◌, ◌<◌, ◌≤◌, List, [], ◌∷◌, ◌++◌, length, ap, ◌∙◌, sym, refl, arith, get_or, Bool, true, false, cond, Option, Some, None, map}
 use Rattle.std.specs.Prelude.{nat_lt, position, not}
 use Rattle.std.specs.List.{prefix_len, position_or_len}
 use Rattle.std.specs.Str.{bytes_eq}
 use Rattle.std.proofs.lemmas.Bool.Decides.{nat_tests}
 use Rattle.std.proofs.lemmas.List.Quantifiers.{position-Some}
 use Rattle.std.proofs.lemmas.List.Sums.{position_or_len_is}
-use Rattle.std.proofs.lemmas.List.{length-map}
+use Rattle.std.proofs.lemmas.List.{length-map, get_or-map, map-append}
 use Rattle.std.proofs.lemmas.Slice.Eq.{bytes_eq-Decides}
+use Rattle.std.specs.String.{string_bytes}
+use Rattle.std.specs.declared.string.String.{String}
 use Rattle.bk_top.specs.Narrow.{Differ}
-use Rattle.bk_top.specs.Reading.{place_of}
+use Rattle.bk_top.specs.Reading.{place_of, spellings}
 
 prefix_len-map : {X Y : Type 0} (f : X → Y) (p : Y → Bool) (xs : List X) → prefix_len p (map f xs) ≡ prefix_len (λ x. p (f x)) xs
 prefix_len-map f p [] = refl
@@ -36,3 +38,25 @@ pub place_again : (names : List (List ℕ)) (a : ℕ) → Differ names → a < l
 place_again names a d h =
   let same = bytes_eq-Decides in
   found_place _ (length names) a (position_or_len_is (λ n. bytes_eq n (get_or names a [])) names a [] (omega arith) (λ k l. not_true _ (λ e. d k a [] l h ((bytes_eq-Decides (get_or names k []) (get_or names a [])).0 e))) (λ l. (bytes_eq-Decides (get_or names a []) (get_or names a [])).1 refl)) h
+
+missing_place : (n l : ℕ) → n ≡ l → cond (nat_lt n l) (Some n) None ≡ None
+missing_place n l e = grind (arith, nat_tests)
+
+pub place_found : (name : List ℕ) (names : List (List ℕ)) (a : ℕ) → a < length names → ((k : ℕ) → k < a → bytes_eq (get_or names k []) name ≡ false) → bytes_eq (get_or names a []) name ≡ true → Some a ≡ place_of name names
+place_found name names a h before here = sym (found_place _ (length names) a (position_or_len_is (λ n. bytes_eq n name) names a [] (omega arith) before (λ l. here)) h)
+
+pub place_missing : (name : List ℕ) (names : List (List ℕ)) → ((k : ℕ) → k < length names → bytes_eq (get_or names k []) name ≡ false) → None ≡ place_of name names
+place_missing name names before = sym (missing_place _ (length names) (position_or_len_is (λ n. bytes_eq n name) names (length names) [] (omega arith) before (λ l. absurd (omega arith))))
+
+spelling_at : {Z : Type 0} (names : List (String Z)) (k : ℕ) (s : String Z) → k < length names → s ≡ get_or names k s → get_or (spellings names) k [] ≡ string_bytes s
+spelling_at names k s h e = get_or-map (λ n. string_bytes n) names k s [] h ∙ ap (λ n. string_bytes n) (sym e)
+
+-- the test of a name, as the spelling at its place has it
+pub tested : {Z : Type 0} (names : List (String Z)) (name : List ℕ) (k : ℕ) (s : String Z) (spelling : List ℕ) (b : Bool) → k < length names → s ≡ get_or names k s → spelling ≡ string_bytes s → b ≡ bytes_eq spelling name → bytes_eq (get_or (spellings names) k []) name ≡ b
+tested names name k s spelling b h e f g = ap (λ t. bytes_eq t name) (spelling_at names k s h e ∙ sym f) ∙ sym g
+
+pub spellings_length : {Z : Type 0} (names : List (String Z)) → length (spellings names) ≡ length names
+spellings_length names = length-map names (λ n. string_bytes n)
+
+pub spellings_push : {Z : Type 0} (now before : List (String Z)) (s : String Z) (n : List ℕ) → now ≡ before ++ s ∷ [] → string_bytes s ≡ n → spellings now ≡ spellings before ++ n ∷ []
+spellings_push now before s n e f = ap spellings e ∙ map-append (λ t. string_bytes t) before (s ∷ []) ∙ ap (λ t. spellings before ++ t ∷ []) f
