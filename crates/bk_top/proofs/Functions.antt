@@ -2,7 +2,7 @@
 use Rattle.std.proofs.Common.{◌≡◌, ℕ, zero, suc, ◌+◌, ◌-◌, ◌<◌, ◌≤◌, List, [], ◌∷◌, ◌++◌, length, ap, ◌∙◌, sym, subst, refl, arith, Bool, true, false, cond, Option, Some, None}
 use Rattle.std.specs.Prelude.{codes, All}
 use Rattle.std.specs.Str.{bytes_eq}
-use Rattle.std.proofs.lemmas.List.{append-nil, append_assoc}
+use Rattle.std.proofs.lemmas.List.{append-nil, append_assoc, length-append}
 use Rattle.std.proofs.lemmas.Slice.Eq.{bytes_eq-Decides}
 use Rattle.bk_top.specs.declared.narrow.package.Value.{Value}
 use Rattle.bk_top.specs.Words.{◌>>=◌, IsName}
@@ -29,6 +29,15 @@ behind_takes word (line ∷ rest) more h = by_test word line rest more (bytes_eq
 pub behind_again : (word : List ℕ) (more : List (List ℕ)) → behind word (word ∷ more) ≡ Some more
 unfolding behind
 behind_again word more = rw ((bytes_eq-Decides word word).1 refl) refl
+
+pub behind_none : (word : List ℕ) (all : List (List ℕ)) → first_line all ≡ None → behind word all ≡ None
+unfolding behind
+behind_none word [] h = refl
+behind_none word (line ∷ more) h = absurd (cc)
+
+pub behind_first : (word : List ℕ) (all : List (List ℕ)) (line : List ℕ) (more : List (List ℕ)) (b : Bool) → ◌≡◌ {A = Option (List ℕ × List (List ℕ))} (first_line all) (Some (line, more)) → b ≡ bytes_eq line word → behind word all ≡ cond b (Some more) None
+unfolding behind
+behind_first word all line more b e h = ap (behind word) (first_is all line more e) ∙ ap (λ t. cond t (Some more) None) (sym h)
 
 -- steps of the loop over values
 values_stop : (parameters : List (List ℕ)) (place : ℕ) (line : List ℕ) (more : List (List ℕ)) → value_at parameters place line ≡ None → ◌≡◌ {A = List Value × List (List ℕ)} (values_at parameters place (line ∷ more)) ([], line ∷ more)
@@ -170,3 +179,33 @@ function_again f r h =
   ap function_at regrouped
   ∙ rw (opening_again f.name f.parameters (value_lines f.parameters 0 f.values ++ end) h.named h.parameters_named h.few_parameters)
     (rw values (rw (ending_again count f.result r h.result_is_value h.few_values) refl))
+
+pub opening_is : (all : List (List ℕ)) (line : List ℕ) (a b m : List (List ℕ)) (h : List ℕ × List (List ℕ)) → ◌≡◌ {A = Option (List ℕ × List (List ℕ))} (first_line all) (Some (line, a)) → header_at line ≡ Some h → behind (codes "b1:") a ≡ Some b → behind (codes "v1 = InitMem <mem>") b ≡ Some m
+  → ◌≡◌ {A = Option ((List ℕ × List (List ℕ)) × List (List ℕ))} (Some (h, m)) (opening_at all)
+unfolding opening_at
+opening_is all line a b m h e f g i = rw (e, f, g, i) refl
+
+pub function_is : (all m r e : List (List ℕ)) (name : List ℕ) (parameters : List (List ℕ)) (vs : List Value) (count i : ℕ) → ◌≡◌ {A = Option ((List ℕ × List (List ℕ)) × List (List ℕ))} (opening_at all) (Some ((name, parameters), m))
+  → ◌≡◌ {A = List Value × List (List ℕ)} (values_at parameters 0 m) (vs, r) → count ≡ length vs → ◌≡◌ {A = Option (ℕ × List (List ℕ))} (ending_at count r) (Some (i, e))
+  → ◌≡◌ {A = Option (Narrow × List (List ℕ))} (Some (record { name = name; parameters = parameters; values = vs; result = i }, e)) (function_at all)
+unfolding function_at
+function_is all m r e name parameters vs count i o v n h = let k : ◌≡◌ {A = Option (ℕ × List (List ℕ))} (ending_at (length vs) r) (Some (i, e)) = ap (λ t. ending_at t r) (sym n) ∙ h in rw (o, v, k) refl
+
+pub function_unended : (all m r : List (List ℕ)) (name : List ℕ) (parameters : List (List ℕ)) (vs : List Value) (count : ℕ) → ◌≡◌ {A = Option ((List ℕ × List (List ℕ)) × List (List ℕ))} (opening_at all) (Some ((name, parameters), m))
+  → ◌≡◌ {A = List Value × List (List ℕ)} (values_at parameters 0 m) (vs, r) → count ≡ length vs → ending_at count r ≡ None → ◌≡◌ {A = Option (Narrow × List (List ℕ))} None (function_at all)
+unfolding function_at
+function_unended all m r name parameters vs count o v n h = let k : ending_at (length vs) r ≡ None = ap (λ t. ending_at t r) (sym n) ∙ h in rw (o, v, k) refl
+
+pub no_function : function_at [] ≡ None
+unfolding function_at opening_at
+no_function = refl
+
+pub some_lines : (f : Narrow) (r : List (List ℕ)) → [] ≡ lines_of f ++ r → ⊥
+unfolding lines_of
+some_lines f r h = absurd (cc)
+
+pub lines_shrink : (all r : List (List ℕ)) (f : Narrow) → ◌≡◌ {A = Option (Narrow × List (List ℕ))} (function_at all) (Some (f, r)) → length r < length all
+unfolding lines_of
+lines_shrink all r f h =
+  let t = (function_takes all r f h).0 in
+  omega (arith, simp length-append at (ap length t))

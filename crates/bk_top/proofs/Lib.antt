@@ -4,7 +4,9 @@ pub mod Headers
 pub mod Lines
 pub mod Names
 pub mod Places
+pub mod Plain
 pub mod Rules
 pub mod Runs
 pub mod Values
+pub mod Whole
 pub mod Words

@@ -4,6 +4,7 @@ use Rattle.std.specs.Option.{option_map}
 use Rattle.std.specs.Str.{bytes_eq}
 use Rattle.std.specs.String.{string_bytes}
 use Rattle.std.specs.declared.string.String.{String}
+use Rattle.bk_top.specs.declared.narrow.package.Function.{Function}
 use Rattle.bk_top.specs.declared.narrow.package.Value.{Value}
 use Rattle.bk_top.specs.declared.narrow.package.Value.TheVariants.{Argument, Sum}
 use Rattle.bk_top.specs.Words.{◌>>=◌, after, at_end, name_at}
@@ -138,3 +139,11 @@ closing_at header values = ending_at (length values.0) values.1 >>= λ e. Some (
 -- the first function, and the lines behind it
 unfoldable pub function_at : List (List ℕ) → Option (Narrow × List (List ℕ))
 function_at all = opening_at all >>= λ o. closing_at o.0 (values_at o.0.1 0 o.1)
+
+abbrev pub names_of : List Function → List (List ℕ)
+names_of functions = map (λ f. string_bytes f.name) functions
+
+-- these functions are read, one after the other, up to the rest
+abbrev pub Reads : List (List ℕ) → List Narrow → List (List ℕ) → Type 0
+Reads all [] rest = all ≡ rest
+Reads all (f ∷ fs) rest = (more : List (List ℕ)) × (function_at all ≡ Some (f, more)) × Reads more fs rest

@@ -1,6 +1,6 @@
 //! A function's first line.
 
-ghost use Rattle.std.specs.Prelude.{◌≡◌, ◌≤◌, [], length, IfOk, IfSome};
+ghost use Rattle.std.specs.Prelude.{◌≡◌, ◌≤◌, [], vec_len, IfOk, IfSome};
 ghost use Rattle.std.specs.Option.{option_map};
 ghost use Rattle.std.specs.String.{string_bytes};
 ghost use Rattle.bk_top.specs.Words.{IsName};
@@ -32,7 +32,8 @@ fn parameter<'a>(text: &'a [u8], separator: &[u8]) -> Option<(&'a [u8], &'a [u8]
 
 /// The parameters up to the end of the line, at most 63.
 fn parameters(alloc: Global, text: &[u8]) -> Result<Option<Vec<String>>, AllocError>
-    ensures { IfOk result (λ read. option_map (λ v. spellings v.items) read ≡ parameters_at 64 [] text.now) }
+    ensures value { IfOk result (λ read. option_map (λ v. spellings v.items) read ≡ parameters_at 64 [] text.now) }
+    ensures few { IfOk result (λ read. IfSome read (λ v. vec_len v ≤ 63)) }
 {
     let mut parameters = Vec::new(alloc);
     let mut rest = text;
@@ -55,7 +56,7 @@ fn parameters(alloc: Global, text: &[u8]) -> Result<Option<Vec<String>>, AllocEr
 #[tactic(auto, unfolding(crate::specs::Reading::header_at))]
 pub fn read_header(alloc: Global, line: &[u8]) -> Result<Option<Header>, AllocError>
     ensures value { IfOk result (λ read. option_map (λ h. (string_bytes h.name, spellings h.parameters.items)) read ≡ header_at line.now) }
-    ensures few { IfOk result (λ read. IfSome read (λ h. length h.parameters.items ≤ 63)) }
+    ensures few { IfOk result (λ read. IfSome read (λ h. vec_len h.parameters ≤ 63)) }
 {
     let Some((found, rest)) = name(line) else {
         return Ok(None);

@@ -1,11 +1,11 @@
 //! The reader of a whole text.
 
-ghost use Rattle.std.specs.Prelude.{◌≡◌, ◌↔◌, ◌≤◌, List, length, map, vec_len, IsTrue, IfOk, IfSome};
+ghost use Rattle.std.specs.Prelude.{◌≡◌, ◌↔◌, ◌≤◌, ℕ, List, [], All, length, map, vec_len, IsTrue, IfOk, IfSome};
 ghost use Rattle.std.specs.Option.{IfNone, option_map};
 ghost use Rattle.std.specs.String.{string_bytes};
 ghost use Rattle.bk_top.specs.Lines.{lines};
 ghost use Rattle.bk_top.specs.Narrow.{Narrow, IsNarrow, Differ, view};
-ghost use Rattle.bk_top.specs.Reading.{spellings, behind, values_at, ending_at, opening_at, function_at};
+ghost use Rattle.bk_top.specs.Reading.{spellings, behind, values_at, ending_at, opening_at, function_at, names_of, Reads};
 
 use std::alloc::{AllocError, Global};
 use std::collections::HashSet;
@@ -60,7 +60,7 @@ fn read_ending(text: &[u8], count: u8) -> Option<(u8, &[u8])>
 #[tactic(auto, unfolding(crate::specs::Reading::opening_at))]
 fn read_opening(alloc: Global, text: &[u8]) -> Result<Option<(Header, &[u8])>, AllocError>
     ensures value { IfOk result (λ read. option_map (λ x. ((string_bytes x.0.name, spellings x.0.parameters.items), lines x.1.now)) read ≡ opening_at (lines text.now)) }
-    ensures few { IfOk result (λ read. IfSome read (λ x. length x.0.parameters.items ≤ 63)) }
+    ensures few { IfOk result (λ read. IfSome read (λ x. vec_len x.0.parameters ≤ 63)) }
 {
     let Some((line, rest)) = next_line(text) else {
         return Ok(None);
@@ -104,8 +104,17 @@ fn are_distinct(names: &[String]) -> bool
     true
 }
 
+/// Whether no function has two parameters of one name.
+fn have_distinct_parameters(functions: &[Function]) -> bool
+    ensures { IsTrue result ↔ All (λ f. Differ (spellings f.parameters.items)) functions.now }
+{
+    functions.iter().all(|function| are_distinct(&function.parameters))
+}
+
 /// Whether no two functions have one name.
-fn have_distinct_names(alloc: Global, functions: &[Function]) -> Result<bool, AllocError> {
+fn have_distinct_names(alloc: Global, functions: &[Function]) -> Result<bool, AllocError>
+    ensures { IfOk result (λ answer. IsTrue answer ↔ Differ (names_of functions.now)) }
+{
     let mut names = HashSet::new(alloc);
     for function in functions {
         if !names.insert(function.name.clone()?)? {
@@ -115,9 +124,9 @@ fn have_distinct_names(alloc: Global, functions: &[Function]) -> Result<bool, Al
     Ok(true)
 }
 
-/// The functions that a narrow text spells, or `None` where the text is not narrow.
-pub fn read_narrow(alloc: Global, text: &[u8]) -> Result<Option<Vec<Function>>, AllocError>
-    ensures found { IfOk result (λ read. IfSome read (λ functions. IsNarrow text.now (map view functions.items))) }
+/// The functions of a text, whose names are not compared yet.
+fn read_functions(alloc: Global, text: &[u8]) -> Result<Option<Vec<Function>>, AllocError>
+    ensures found { IfOk result (λ read. IfSome read (λ functions. Reads (lines text.now) (map view functions.items) [])) }
     ensures none { IfOk result (λ read. IfNone read ((functions : List Narrow) → IsNarrow text.now functions → ⊥)) }
 {
     let mut functions = Vec::new(alloc);
@@ -129,5 +138,25 @@ pub fn read_narrow(alloc: Global, text: &[u8]) -> Result<Option<Vec<Function>>, 
         functions.push(found)?;
         rest = behind;
     }
-    if have_distinct_names(alloc, &functions)? { Ok(Some(functions)) } else { Ok(None) }
+    Ok(Some(functions))
+}
+
+/// The functions that a narrow text spells, or `None` where the text is not narrow.
+pub fn read_narrow(alloc: Global, text: &[u8]) -> Result<Option<Vec<Function>>, AllocError>
+    ensures found { IfOk result (λ read. IfSome read (λ functions. IsNarrow text.now (map view functions.items))) }
+    ensures none { IfOk result (λ read. IfNone read ((functions : List Narrow) → IsNarrow text.now functions → ⊥)) }
+{
+    let Some(functions) = read_functions(alloc, text)? else {
+        return Ok(None);
+    };
+    if !have_distinct_parameters(&functions) || !have_distinct_names(alloc, &functions)? {
+        return Ok(None);
+    }
+    Ok(Some(functions))
+}
+
+/// A text spells at most one list of functions.
+pub fn one_reading()
+    ensures { (text : List ℕ) (functions others : List Narrow) → IsNarrow text functions → IsNarrow text others → others ≡ functions }
+{
 }

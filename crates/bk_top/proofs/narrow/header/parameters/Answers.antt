@@ -7,14 +7,14 @@ use Rattle.bk_top.proofs.Places.{spellings_push}
 use Rattle.bk_top.proofs.Headers.{step_end, step_none, step_more, step_last}
 use Rattle.bk_top.proofs.narrow.header.parameters.Goals as goal
 
-pub returns-then-eq : goal.returns-then-eq
-returns-then-eq c =
+pub returns-then-eq-clause-value : goal.returns-then-eq-clause-value
+returns-then-eq-clause-value c =
   let h : 0 < 64 - vec_len c.loop-rest.parameters = omega arith in
   let e : bytes_eq c.loop-rest.rest.now (codes ") int") ≡ true = ap (bytes_eq c.loop-rest.rest.now) (sym c.as_slice.ensures) ∙ sym c.eq.ensures ∙ c.if-eq.true in
   sym (step_end (64 - vec_len c.loop-rest.parameters) c.loop-rest.separator.now c.loop-rest.rest.now (spellings c.loop-rest.parameters.items) h e) ∙ c.loop-rest.invariant.same
 
-pub returns-in_default : goal.returns-in_default
-returns-in_default c =
+pub returns-in_default-clause-value : goal.returns-in_default-clause-value
+returns-in_default-clause-value c =
   let e : bytes_eq c.loop-rest.rest.now (codes ") int") ≡ false = ap (bytes_eq c.loop-rest.rest.now) (sym c.as_slice.ensures) ∙ sym c.eq.ensures ∙ c.if-eq.false in
   sym (step_none (64 - vec_len c.loop-rest.parameters) c.loop-rest.separator.now c.loop-rest.rest.now (spellings c.loop-rest.parameters.items) e (sym c.in_default.ensures.value)) ∙ c.loop-rest.invariant.same
 
@@ -34,8 +34,8 @@ loop-rest-preserved c =
     few = omega (arith, c.in_ok-push.ensures.len);
   }
 
-pub returns : goal.returns
-returns c =
+pub returns-clause-value : goal.returns-clause-value
+returns-clause-value c =
   let z : 0 ≡ 64 - vec_len c.loop-rest.parameters = omega arith in
   sym (step_last c.loop-rest.separator.now c.loop-rest.rest.now (spellings c.loop-rest.parameters.items))
   ∙ ap (λ n. option_map (λ ps. spellings c.loop-rest.parameters.items ++ ps) (parameters_at n c.loop-rest.separator.now c.loop-rest.rest.now)) z
