@@ -21,7 +21,7 @@ use Rattle.bk_top.specs.Code.{frame, entry, unit, units, ending, code_of, code, 
 use Rattle.bk_top.specs.Runs.{AreWords, Computes, AllCompute}
 use Rattle.bk_top.proofs.Machine.{st}
 use Rattle.bk_top.proofs.Units.{units_run}
-use Rattle.bk_top.proofs.Whole.{enters, refuses, ends}
+use Rattle.bk_top.proofs.Execution.{enters, refuses, ends}
 
 lt_test : (a b : ℕ) → a < b → nat_lt a b ≡ true
 lt_test a b h = grind (arith, nat_tests)

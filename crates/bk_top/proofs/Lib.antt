@@ -1,10 +1,14 @@
 pub mod Digits
+pub mod Functions
+pub mod Headers
 pub mod Lines
 pub mod Names
 pub mod Places
+pub mod Plain
 pub mod Rules
 pub mod Runs
 pub mod Values
+pub mod Whole
 pub mod Words
 pub mod Complete
 pub mod Machine
@@ -15,3 +19,4 @@ pub mod Whole
 pub mod Bytes
 pub mod Computes
 pub mod Emitted
+pub mod Execution

@@ -55,3 +55,7 @@ name_again (c ∷ cs) r h e =
   ∙ ap (λ k. Some (take k ((c ∷ cs) ++ r), drop k ((c ∷ cs) ++ r))) len
   ∙ ap (λ t. Some (t, drop (length (c ∷ cs)) ((c ∷ cs) ++ r))) (take_at (c ∷ cs) r (length (c ∷ cs)) refl)
   ∙ ap (λ t. Some (c ∷ cs, t)) (drop_at (c ∷ cs) r (length (c ∷ cs)) refl)
+
+pub front_named : (text : List ℕ) → 0 < length text → is_ascii_lowercase (get_or text 0 0) ≡ true → IsName (take (name_len text) text)
+front_named [] h e = absurd (omega arith)
+front_named (c ∷ cs) h e = front_is_name c cs e

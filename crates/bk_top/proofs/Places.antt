@@ -1,15 +1,20 @@
 -- Places of names in a list.
-use Rattle.std.proofs.Common.{◌≡◌, ℕ, ◌+◌, ◌<◌, ◌≤◌, List, [], ◌∷◌, length, ap, ◌∙◌, sym, refl, arith, get_or, Bool, true, false, cond, Option, Some, None, map}
+use Rattle.std.proofs.Common.{◌≡◌, ◌≢◌, ℕ, ◌+◌, ◌<◌, ◌≤◌, take, ⊎_elim, List, [], ◌∷◌, ◌++◌, length, ap, ◌∙◌, sym, refl, arith, get_or, Bool, true, false, cond, Option, Some, None, map}
 use Rattle.std.specs.Prelude.{nat_lt, position, not}
-use Rattle.std.specs.List.{prefix_len, position_or_len}
+use Rattle.std.specs.List.{prefix_len, position_or_len, list_any}
 use Rattle.std.specs.Str.{bytes_eq}
 use Rattle.std.proofs.lemmas.Bool.Decides.{nat_tests}
 use Rattle.std.proofs.lemmas.List.Quantifiers.{position-Some}
-use Rattle.std.proofs.lemmas.List.Sums.{position_or_len_is}
-use Rattle.std.proofs.lemmas.List.{length-map}
+use Rattle.std.proofs.lemmas.List.Sums.{position_or_len_is, fails_before_first}
+use Rattle.std.proofs.lemmas.List.Folds.{list_any_at, Any-from_list_any}
+use Rattle.std.proofs.lemmas.Bool.{cases_lt}
+use Rattle.std.specs.Option.{is_some}
+use Rattle.std.proofs.lemmas.List.{length-map, get_or-map, map-append, take-map, get_or-take, get_or_default, length-take-le}
 use Rattle.std.proofs.lemmas.Slice.Eq.{bytes_eq-Decides}
+use Rattle.std.specs.String.{string_bytes}
+use Rattle.std.specs.declared.string.String.{String}
 use Rattle.bk_top.specs.Narrow.{Differ}
-use Rattle.bk_top.specs.Reading.{place_of}
+use Rattle.bk_top.specs.Reading.{place_of, spellings}
 
 prefix_len-map : {X Y : Type 0} (f : X → Y) (p : Y → Bool) (xs : List X) → prefix_len p (map f xs) ≡ prefix_len (λ x. p (f x)) xs
 prefix_len-map f p [] = refl
@@ -36,3 +41,79 @@ pub place_again : (names : List (List ℕ)) (a : ℕ) → Differ names → a < l
 place_again names a d h =
   let same = bytes_eq-Decides in
   found_place _ (length names) a (position_or_len_is (λ n. bytes_eq n (get_or names a [])) names a [] (omega arith) (λ k l. not_true _ (λ e. d k a [] l h ((bytes_eq-Decides (get_or names k []) (get_or names a [])).0 e))) (λ l. (bytes_eq-Decides (get_or names a []) (get_or names a [])).1 refl)) h
+
+missing_place : (n l : ℕ) → n ≡ l → cond (nat_lt n l) (Some n) None ≡ None
+missing_place n l e = grind (arith, nat_tests)
+
+pub place_found : (name : List ℕ) (names : List (List ℕ)) (a : ℕ) → a < length names → ((k : ℕ) → k < a → bytes_eq (get_or names k []) name ≡ false) → bytes_eq (get_or names a []) name ≡ true → Some a ≡ place_of name names
+place_found name names a h before here = sym (found_place _ (length names) a (position_or_len_is (λ n. bytes_eq n name) names a [] (omega arith) before (λ l. here)) h)
+
+pub place_missing : (name : List ℕ) (names : List (List ℕ)) → ((k : ℕ) → k < length names → bytes_eq (get_or names k []) name ≡ false) → None ≡ place_of name names
+place_missing name names before = sym (missing_place _ (length names) (position_or_len_is (λ n. bytes_eq n name) names (length names) [] (omega arith) before (λ l. absurd (omega arith))))
+
+spelling_at : {Z : Type 0} (names : List (String Z)) (k : ℕ) (s : String Z) → k < length names → s ≡ get_or names k s → get_or (spellings names) k [] ≡ string_bytes s
+spelling_at names k s h e = get_or-map (λ n. string_bytes n) names k s [] h ∙ ap (λ n. string_bytes n) (sym e)
+
+-- the test of a name, as the spelling at its place has it
+pub tested : {Z : Type 0} (names : List (String Z)) (name : List ℕ) (k : ℕ) (s : String Z) (spelling : List ℕ) (b : Bool) → k < length names → s ≡ get_or names k s → spelling ≡ string_bytes s → b ≡ bytes_eq spelling name → bytes_eq (get_or (spellings names) k []) name ≡ b
+tested names name k s spelling b h e f g = ap (λ t. bytes_eq t name) (spelling_at names k s h e ∙ sym f) ∙ sym g
+
+pub spellings_length : {Z : Type 0} (names : List (String Z)) → length (spellings names) ≡ length names
+spellings_length names = length-map names (λ n. string_bytes n)
+
+pub spellings_push : {Z : Type 0} (now before : List (String Z)) (s : String Z) (n : List ℕ) → now ≡ before ++ s ∷ [] → string_bytes s ≡ n → spellings now ≡ spellings before ++ n ∷ []
+spellings_push now before s n e f = ap spellings e ∙ map-append (λ t. string_bytes t) before (s ∷ []) ∙ ap (λ t. spellings before ++ t ∷ []) f
+
+-- names that differ, one after the other
+pub differ_from : (names : List (List ℕ)) → ((j k : ℕ) → j < k → k < length names → get_or names j [] ≢ get_or names k []) → Differ names
+differ_from names h i j d l m = λ e. h i j l m (get_or_default names i [] d (omega arith) ∙ e ∙ get_or_default names j d [] m)
+
+pub differ_more : (names : List (List ℕ)) (i : ℕ) → ((j k : ℕ) → j < k → k < i → get_or names j [] ≢ get_or names k []) → ((j : ℕ) → j < i → get_or names j [] ≢ get_or names i [])
+  → (j k : ℕ) → j < k → k < i + 1 → get_or names j [] ≢ get_or names k []
+differ_more names i before here j k l m =
+  ⊎_elim (λ h. before j k l h) (λ h. let q : k ≡ i = omega arith in λ e. here j (omega arith) (e ∙ ap (λ t. get_or names t []) q)) (cases_lt k i)
+
+none_passes : (n l : ℕ) → cond (nat_lt n l) (Some n) None ≡ None → l ≤ n
+none_passes n l h = grind (arith, nat_tests)
+
+absent_case : (names : List (List ℕ)) (i : ℕ) (name : List ℕ) (o : Option ℕ) → i ≤ length names → o ≡ place_of name (take i names) → is_some o ≡ false → (j : ℕ) → j < i → get_or names j [] ≢ name
+absent_case names i name (Some a) l e h j m = absurd (cc)
+absent_case names i name None l e h j m = λ same.
+  let size : length (take i names) ≡ i = length-take-le i names l in
+  let n = none_passes (position_or_len (λ t. bytes_eq t name) (take i names)) (length (take i names)) (sym e) in
+  let fails = fails_before_first (λ t. bytes_eq t name) (take i names) j [] (omega arith) in
+  let passes = (bytes_eq-Decides (get_or (take i names) j []) name).1 (get_or-take i names j [] m ∙ same) in
+  cc
+
+present_case : (names : List (List ℕ)) (i : ℕ) (name : List ℕ) (o : Option ℕ) → i < length names → get_or names i [] ≡ name → o ≡ place_of name (take i names) → is_some o ≡ true → Differ names → ⊥
+present_case names i name None l s e h d = absurd (cc)
+present_case names i name (Some a) l s e h d =
+  let p = place_takes name (take i names) a (sym e) in
+  let size : length (take i names) ≡ i = length-take-le i names (omega arith) in
+  let before : a < i = omega (arith, p.0) in
+  d a i [] before l (sym (get_or-take i names a [] before) ∙ p.1 ∙ sym s)
+
+pub absent : {Z : Type 0} (names : List (String Z)) (i : ℕ) (s : String Z) (name : List ℕ) (o : Option ℕ) → i < length names → s ≡ get_or names i s → name ≡ string_bytes s → o ≡ place_of name (spellings (take i names)) → is_some o ≡ false
+  → (j : ℕ) → j < i → get_or (spellings names) j [] ≢ get_or (spellings names) i []
+absent names i s name o l r f e h j m = λ same.
+  absent_case (spellings names) i name o (omega (arith, spellings_length names)) (e ∙ ap (place_of name) (sym (take-map (λ t. string_bytes t) i names))) h j m (same ∙ spelling_at names i s l r ∙ sym f)
+
+pub present : {Z : Type 0} (names : List (String Z)) (i : ℕ) (s : String Z) (name : List ℕ) (o : Option ℕ) → i < length names → s ≡ get_or names i s → name ≡ string_bytes s → o ≡ place_of name (spellings (take i names)) → is_some o ≡ true
+  → Differ (spellings names) → ⊥
+present names i s name o l r f e h d =
+  present_case (spellings names) i name o (omega (arith, spellings_length names)) (spelling_at names i s l r ∙ sym f) (e ∙ ap (place_of name) (sym (take-map (λ t. string_bytes t) i names))) h d
+
+-- names in a set of those before
+pub fresh : (names : List (List ℕ)) (i : ℕ) → i < length names → list_any (λ n. bytes_eq (get_or names i []) n) (take i names) ≡ false → (j : ℕ) → j < i → get_or names j [] ≢ get_or names i []
+fresh names i l h j m = λ same.
+  let size : length (take i names) ≡ i = length-take-le i names (omega arith) in
+  let t = list_any_at (λ n. bytes_eq (get_or names i []) n) (take i names) j [] (omega arith) ((bytes_eq-Decides (get_or names i []) (get_or (take i names) j [])).1 (sym (get_or-take i names j [] m ∙ same))) in
+  cc
+
+pub seen : (names : List (List ℕ)) (i : ℕ) → i < length names → list_any (λ n. bytes_eq (get_or names i []) n) (take i names) ≡ true → Differ names → ⊥
+seen names i l h d =
+  let a = Any-from_list_any (λ n. bytes_eq (get_or names i []) n) (take i names) h in
+  let size : length (take i names) ≡ i = length-take-le i names (omega arith) in
+  let before : a.0 < i = omega (arith, a.2) in
+  d a.0 i [] before l
+    (sym (get_or-take i names a.0 [] before) ∙ get_or_default (take i names) a.0 [] a.1 a.2 ∙ a.3 ∙ sym ((bytes_eq-Decides (get_or names i []) a.1).0 a.4))

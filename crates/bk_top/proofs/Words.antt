@@ -56,3 +56,11 @@ at_end_some (c ∷ text) o h = absurd (omega arith)
 pub at_end_none : {A : Type 0} (text : List ℕ) (o : Option A) → (length text ≡ 0 → ⊥) → at_end text o ≡ None
 at_end_none [] o h = absurd (h refl)
 at_end_none (c ∷ text) o h = refl
+
+same_some : {A : Type 0} (x y : A) → Some x ≡ Some y → x ≡ y
+same_some x y h = cc
+
+pub same_pair : {A B : Type 0} (a c : A) (b d : B) → ◌≡◌ {A = Option (A × B)} (Some (a, b)) (Some (c, d)) → (a ≡ c) × (b ≡ d)
+same_pair {A} {B} a c b d h =
+  let e : ◌≡◌ {A = A × B} (a, b) (c, d) = same_some (a, b) (c, d) h in
+  (ap (λ p. p.0) e, ap (λ p. p.1) e)

@@ -1,6 +1,6 @@
 //! The lines behind the header.
 
-ghost use Rattle.std.specs.Prelude.{◌≡◌, ◌≤◌, length};
+ghost use Rattle.std.specs.Prelude.{◌≡◌, ◌<◌, ◌≤◌, length, IfSome};
 ghost use Rattle.std.specs.Option.{option_map, is_some};
 ghost use Rattle.bk_top.specs.Reading.{spellings, place_of, body_at, earlier_at, argument_at, sum_at, right_at, value_at, made_at, result_at, return_at};
 
@@ -29,10 +29,16 @@ fn earlier(text: &[u8], place: u8) -> Option<(u8, &[u8])>
 }
 
 /// The first place of a name.
-fn place_of(name: &[u8], names: &[String]) -> Option<usize>
+pub fn place_of(name: &[u8], names: &[String]) -> Option<usize>
     ensures value { result ≡ place_of name.now (spellings names.now) }
+    ensures within { IfSome result (λ place. place < length names.now) }
 {
-    names.iter().position(|other| other.as_bytes() == name)
+    for (place, other) in names.iter().enumerate() {
+        if other.as_bytes() == name {
+            return Some(place);
+        }
+    }
+    None
 }
 
 /// The argument in the rest of a line `vK = Arg <int> {NAME}`.

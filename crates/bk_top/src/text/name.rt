@@ -1,6 +1,6 @@
 //! Names: a lower-case letter, then lower-case letters, digits and `_`.
 
-ghost use Rattle.std.specs.Prelude.{◌≡◌, ◌≤◌, length, IfOk};
+ghost use Rattle.std.specs.Prelude.{◌≡◌, ◌≤◌, length, IfOk, IfSome};
 ghost use Rattle.std.specs.Option.{option_map};
 ghost use Rattle.std.specs.String.{string_bytes};
 ghost use Rattle.bk_top.specs.Words.{name_at, name_len, is_name_byte, IsName};
@@ -23,7 +23,8 @@ fn name_len(text: &[u8]) -> usize
 #[tactic(auto, unfolding(crate::specs::Words::name_at))]
 /// The longest name at the front of `text`, and what stands behind it.
 pub fn name(text: &[u8]) -> Option<(&[u8], &[u8])>
-    ensures { option_map (λ x. (x.0.now, x.1.now)) result ≡ name_at text.now }
+    ensures value { option_map (λ x. (x.0.now, x.1.now)) result ≡ name_at text.now }
+    ensures named { IfSome result (λ x. IsName x.0.now) }
 {
     if text.is_empty() || !text[0].is_ascii_lowercase() {
         return None;
