@@ -56,6 +56,10 @@ impl Model for Core {
 }
 
 /// Lets one event happen. After an error the core is as before.
+///
+/// Its worker exists and has a part, for a split two. A cell lies in its area. A take's key is not 0, and
+/// its worker knows each earlier cell on the key's walk, with another key. Two workers that join differ,
+/// and their parts add up to less than 2^64.
 pub fn step(alloc: Global, core: &mut Core, event: Event) -> Result<(), Memory>
     requires can { CanHappen core.old event }
     requires fits { PartsFit core.old event }

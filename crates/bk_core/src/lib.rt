@@ -2,11 +2,11 @@
 //! and what each worker has and knows. Five events change it, and each of them keeps one rule.
 #![tactic(auto)]
 
-pub mod events;
-pub mod laws;
+mod events;
+mod laws;
 #[cfg(test)]
 mod tests;
-pub mod views;
+mod views;
 
 pub use events::{Core, Event, step};
 pub use laws::{

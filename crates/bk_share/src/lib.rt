@@ -5,10 +5,10 @@
 #![tactic(auto)]
 
 mod calls;
-pub mod laws;
+mod laws;
 mod make;
-pub mod rules;
-pub mod shares;
+mod rules;
+mod shares;
 #[cfg(test)]
 mod tests;
 
