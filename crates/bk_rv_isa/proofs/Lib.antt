@@ -4,3 +4,4 @@ pub mod Back
 pub mod Memory
 pub mod Steps
 pub mod Start
+pub mod Windows

@@ -20,9 +20,10 @@ unfoldable pub load_in : ℕ → List ℕ → ℕ → ℕ → Option ℕ
 load_in base window size address =
     if is_within base window size address then Some (number (slice_range window (address - base) (address - base + size))) else None
 
--- the window after `size` bytes at the address were written
+-- the window with `size` bytes in their place
 abbrev pub written : ℕ → List ℕ → ℕ → ℕ → ℕ → List ℕ
 written base window size address n = take (address - base) window ++ (bytes size n ++ drop (address - base + size) window)
 
+-- the window after a write of `size` bytes at the address
 unfoldable pub store_in : ℕ → List ℕ → ℕ → ℕ → ℕ → Option (List ℕ)
 store_in base window size address n = if is_within base window size address then Some (written base window size address n) else None

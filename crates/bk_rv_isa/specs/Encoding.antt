@@ -16,27 +16,32 @@ use Rattle.bk_rv_isa.specs.declared.inst.BranchOp.TheVariants.{Beq, Bne, Blt, Bg
 use Rattle.bk_rv_isa.specs.declared.inst.Inst.{Inst}
 use Rattle.bk_rv_isa.specs.declared.inst.Inst.TheVariants.{Op, OpImm, Shift, Addiw, Load, Store, Branch, Lui, Auipc, Jal, Jalr, Ebreak}
 
--- the formats, from the fields and the opcode; an immediate is the number that its bits spell
+-- the R format, and the others below, from the fields and the opcode; an immediate is the number that its bits spell
 abbrev pub r_type : ℕ → ℕ → ℕ → ℕ → ℕ → ℕ → ℕ
 r_type opcode funct3 funct7 rd rs1 rs2 = funct7 * 2 ^ 25 + rs2 * 2 ^ 20 + rs1 * 2 ^ 15 + funct3 * 2 ^ 12 + rd * 2 ^ 7 + opcode
 
+-- an immediate of 12 bits in place of funct7 and rs2
 abbrev pub i_type : ℕ → ℕ → ℕ → ℕ → ℕ → ℕ
 i_type opcode funct3 rd rs1 imm = imm * 2 ^ 20 + rs1 * 2 ^ 15 + funct3 * 2 ^ 12 + rd * 2 ^ 7 + opcode
 
+-- the immediate's high seven bits on top, its low five in place of rd
 abbrev pub s_type : ℕ → ℕ → ℕ → ℕ → ℕ → ℕ
 s_type opcode funct3 rs1 rs2 imm = imm / 2 ^ 5 * 2 ^ 25 + rs2 * 2 ^ 20 + rs1 * 2 ^ 15 + funct3 * 2 ^ 12 + imm % 2 ^ 5 * 2 ^ 7 + opcode
 
+-- as the S format; bit 12 on top, bit 11 the lowest of rd's place, and bit 0 is 0
 abbrev pub b_type : ℕ → ℕ → ℕ → ℕ → ℕ → ℕ
 b_type opcode funct3 rs1 rs2 imm =
     imm / 2 ^ 12 * 2 ^ 31 + imm / 2 ^ 5 % 2 ^ 6 * 2 ^ 25 + rs2 * 2 ^ 20 + rs1 * 2 ^ 15 + funct3 * 2 ^ 12 + imm / 2 % 2 ^ 4 * 2 ^ 8 + imm / 2 ^ 11 % 2 * 2 ^ 7 + opcode
 
+-- an immediate of 20 bits above rd
 abbrev pub u_type : ℕ → ℕ → ℕ → ℕ
 u_type opcode rd imm = imm * 2 ^ 12 + rd * 2 ^ 7 + opcode
 
+-- an immediate of 21 bits above rd: bits 20, 10 to 1, 11 and 19 to 12 from the top; bit 0 is 0
 abbrev pub j_type : ℕ → ℕ → ℕ → ℕ
 j_type opcode rd imm = imm / 2 ^ 20 * 2 ^ 31 + imm / 2 % 2 ^ 10 * 2 ^ 21 + imm / 2 ^ 11 % 2 * 2 ^ 20 + imm / 2 ^ 12 % 2 ^ 8 * 2 ^ 12 + rd * 2 ^ 7 + opcode
 
--- the rows of the opcodes: funct3, and funct7 where the opcode has it
+-- funct3 of opcode 0x33
 abbrev pub register_funct3 : RegisterOp → ℕ
 register_funct3 Add = 0
 register_funct3 Sub = 0
@@ -57,6 +62,7 @@ register_funct3 Divu = 5
 register_funct3 Rem = 6
 register_funct3 Remu = 7
 
+-- funct7 of opcode 0x33
 abbrev pub register_funct7 : RegisterOp → ℕ
 register_funct7 Add = 0
 register_funct7 Sub = 32
@@ -77,6 +83,7 @@ register_funct7 Divu = 1
 register_funct7 Rem = 1
 register_funct7 Remu = 1
 
+-- funct3 of opcode 0x13, for what is no shift
 abbrev pub immediate_funct3 : ImmediateOp → ℕ
 immediate_funct3 Addi = 0
 immediate_funct3 Slti = 2
@@ -85,6 +92,7 @@ immediate_funct3 Xori = 4
 immediate_funct3 Ori = 6
 immediate_funct3 Andi = 7
 
+-- funct3 of opcode 0x13, for the shifts
 abbrev pub shift_funct3 : ShiftOp → ℕ
 shift_funct3 Slli = 1
 shift_funct3 Srli = 5
@@ -96,6 +104,7 @@ shift_funct6 Slli = 0
 shift_funct6 Srli = 0
 shift_funct6 Srai = 16
 
+-- funct3 of opcode 0x03
 abbrev pub load_funct3 : LoadOp → ℕ
 load_funct3 Lb = 0
 load_funct3 Lh = 1
@@ -105,12 +114,14 @@ load_funct3 Lbu = 4
 load_funct3 Lhu = 5
 load_funct3 Lwu = 6
 
+-- funct3 of opcode 0x23
 abbrev pub store_funct3 : StoreOp → ℕ
 store_funct3 Sb = 0
 store_funct3 Sh = 1
 store_funct3 Sw = 2
 store_funct3 Sd = 3
 
+-- funct3 of opcode 0x63
 abbrev pub branch_funct3 : BranchOp → ℕ
 branch_funct3 Beq = 0
 branch_funct3 Bne = 1
@@ -157,59 +168,75 @@ word Ebreak = 0x00100073
 abbrev pub encoding : Inst → Option ℕ
 encoding i = if fits i then Some (word i) else None
 
--- the fields of a word
+-- the opcode of a word
 abbrev pub opcode : ℕ → ℕ
 opcode n = n % 2 ^ 7
 
+-- funct3 of a word
 abbrev pub funct3 : ℕ → ℕ
 funct3 n = n / 2 ^ 12 % 2 ^ 3
 
+-- funct7 of a word
 abbrev pub funct7 : ℕ → ℕ
 funct7 n = n / 2 ^ 25
 
+-- the destination's number
 abbrev pub rd : ℕ → ℕ
 rd n = n / 2 ^ 7 % 2 ^ 5
 
+-- the first source's number
 abbrev pub rs1 : ℕ → ℕ
 rs1 n = n / 2 ^ 15 % 2 ^ 5
 
+-- the second source's number
 abbrev pub rs2 : ℕ → ℕ
 rs2 n = n / 2 ^ 20 % 2 ^ 5
 
+-- a shift's count
 abbrev pub count : ℕ → ℕ
 count n = n / 2 ^ 20 % 2 ^ 6
 
+-- the signed immediate of the I format
 abbrev pub i_immediate : ℕ → ℤ
 i_immediate n = signed 12 (n / 2 ^ 20)
 
+-- the signed immediate of the S format
 abbrev pub s_immediate : ℕ → ℤ
 s_immediate n = signed 12 (n / 2 ^ 25 * 2 ^ 5 + n / 2 ^ 7 % 2 ^ 5)
 
+-- the signed immediate of the B format
 abbrev pub b_immediate : ℕ → ℤ
 b_immediate n = signed 13 (n / 2 ^ 31 * 2 ^ 12 + n / 2 ^ 7 % 2 * 2 ^ 11 + n / 2 ^ 25 % 2 ^ 6 * 2 ^ 5 + n / 2 ^ 8 % 2 ^ 4 * 2)
 
+-- the signed immediate of the U format
 abbrev pub u_immediate : ℕ → ℤ
 u_immediate n = signed 20 (n / 2 ^ 12)
 
+-- the signed immediate of the J format
 abbrev pub j_immediate : ℕ → ℤ
 j_immediate n = signed 21 (n / 2 ^ 31 * 2 ^ 20 + n / 2 ^ 12 % 2 ^ 8 * 2 ^ 12 + n / 2 ^ 20 % 2 * 2 ^ 11 + n / 2 ^ 21 % 2 ^ 10 * 2)
 
--- the row of an opcode that has these funct fields
+-- the row of opcode 0x33 that has these funct fields
 unfoldable pub register_op : ℕ → ℕ → Option RegisterOp
 register_op f3 f7 = find (λ op. register_funct3 op == f3 && register_funct7 op == f7) (Add ∷ Sub ∷ Sll ∷ Slt ∷ Sltu ∷ Xor ∷ Srl ∷ Sra ∷ Or ∷ And ∷ Mul ∷ Mulh ∷ Mulhsu ∷ Mulhu ∷ Div ∷ Divu ∷ Rem ∷ Remu ∷ [])
 
+-- the row of opcode 0x13 that is no shift, by its funct3
 unfoldable pub immediate_op : ℕ → Option ImmediateOp
 immediate_op f3 = find (λ op. immediate_funct3 op == f3) (Addi ∷ Slti ∷ Sltiu ∷ Xori ∷ Ori ∷ Andi ∷ [])
 
+-- the shift of opcode 0x13, by its funct3 and the six bits above the count
 unfoldable pub shift_op : ℕ → ℕ → Option ShiftOp
 shift_op f3 f6 = find (λ op. shift_funct3 op == f3 && shift_funct6 op == f6) (Slli ∷ Srli ∷ Srai ∷ [])
 
+-- the row of opcode 0x03
 unfoldable pub load_op : ℕ → Option LoadOp
 load_op f3 = find (λ op. load_funct3 op == f3) (Lb ∷ Lh ∷ Lw ∷ Ld ∷ Lbu ∷ Lhu ∷ Lwu ∷ [])
 
+-- the row of opcode 0x23
 unfoldable pub store_op : ℕ → Option StoreOp
 store_op f3 = find (λ op. store_funct3 op == f3) (Sb ∷ Sh ∷ Sw ∷ Sd ∷ [])
 
+-- the row of opcode 0x63
 unfoldable pub branch_op : ℕ → Option BranchOp
 branch_op f3 = find (λ op. branch_funct3 op == f3) (Beq ∷ Bne ∷ Blt ∷ Bge ∷ Bltu ∷ Bgeu ∷ [])
 
@@ -219,7 +246,7 @@ op_imm n =
     if funct3 n % 4 == 1 then option_map (λ op. Shift op (rd n) (rs1 n) (count n)) (shift_op (funct3 n) (n / 2 ^ 26))
     else option_map (λ op. OpImm op (rd n) (rs1 n) (i_immediate n)) (immediate_op (funct3 n))
 
--- the instruction of a word with this opcode, and that of a word; none for a word outside the table
+-- the instruction of a word with this opcode
 abbrev pub decoding_by : ℕ → ℕ → Option Inst
 decoding_by code n =
     if code == 0x33 then option_map (λ op. Op op (rd n) (rs1 n) (rs2 n)) (register_op (funct3 n) (funct7 n))
@@ -235,5 +262,6 @@ decoding_by code n =
     else (if code == 0x73 then (if n == 0x00100073 then Some Ebreak else None)
     else None))))))))))
 
+-- the instruction of a word, none for a word outside the table
 unfoldable pub decoding : ℕ → Option Inst
 decoding n = decoding_by (opcode n) n

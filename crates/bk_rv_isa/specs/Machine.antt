@@ -21,19 +21,23 @@ use Rattle.bk_rv_isa.specs.declared.stop.Stop.TheVariants.{Returned, Trapped, Fa
 use Rattle.bk_rv_isa.specs.Encoding.{decoding}
 use Rattle.bk_rv_isa.specs.Bytes.{bytes, load_in, store_in}
 
--- where the text, the pool and the data begin, where the stack ends, and the return address that halts
+-- where the text begins
 abbrev pub text_base : ℕ
 text_base = 65536
 
+-- where the pool of constants begins
 abbrev pub pool_base : ℕ
 pool_base = 33554432
 
+-- where the data window begins
 abbrev pub data_base : ℕ
 data_base = 67108864
 
+-- where the stack ends; the words of the started function's arguments and results stand there and above
 abbrev pub stack_top : ℕ
 stack_top = 536870912
 
+-- the return address that halts
 abbrev pub halt : ℕ
 halt = 61440
 
@@ -63,52 +67,61 @@ plus n z = (n + residue 64 z) % 2 ^ 64
 abbrev pub extended : ℕ → ℕ → ℕ
 extended w n = residue 64 (signed w n)
 
+-- what a comparison gives
 abbrev pub flag : Bool → ℕ
 flag b = if b then 1 else 0
 
--- the instruction at the pc, none outside the text, between its words and at a word outside the table
+-- the instruction of a word, if there is a word
 abbrev pub decoded : Option ℕ → Option Inst
 decoded None = None
 decoded (Some w) = decoding w
 
+-- the instruction at the pc: none outside the text, between its words, and at a word outside the table
 abbrev pub fetch : List ℕ → ℕ → Option Inst
 fetch text pc = if nat_le text_base pc && pc % 4 == 0 then decoded (slice_get text ((pc - text_base) / 4)) else None
 
--- the number in `size` bytes at an address of the pool, the data window or the stack
+-- the first of two numbers that is there
 abbrev pub or_in : Option ℕ → Option ℕ → Option ℕ
 or_in (Some n) o = Some n
 or_in None o = o
 
+-- the number in `size` bytes at an address; they lie whole in the pool, in the data window or in the stack
 unfoldable pub read : List ℕ → List ℕ → ℕ → List ℕ → ℕ → ℕ → Option ℕ
 read pool window bottom stack size address =
     or_in (load_in pool_base pool size address) (or_in (load_in data_base window size address) (load_in bottom stack size address))
 
+-- what a load reads
 abbrev pub load : Machine → ℕ → ℕ → Option ℕ
 load m size address = read m.pool m.window m.bottom m.stack size address
 
--- the data window and the stack after `size` bytes at an address of one of them were written
+-- the data window and the stack, with the stack after a write
 abbrev pub to_stack : List ℕ → Option (List ℕ) → Option (List ℕ × List ℕ)
 to_stack window None = None
 to_stack window (Some stack) = Some (window, stack)
 
+-- the data window after a write and the stack, or else the other pair
 abbrev pub to_data : List ℕ → Option (List ℕ) → Option (List ℕ × List ℕ) → Option (List ℕ × List ℕ)
 to_data stack None other = other
 to_data stack (Some window) other = Some (window, stack)
 
+-- the data window and the stack after `size` bytes at an address were written; they lie whole in one of them
 unfoldable pub write : List ℕ → ℕ → List ℕ → ℕ → ℕ → ℕ → Option (List ℕ × List ℕ)
 write window bottom stack size address n =
     to_data stack (store_in data_base window size address n) (to_stack window (store_in bottom stack size address n))
 
+-- what a store leaves of the windows that it may write
 abbrev pub store : Machine → ℕ → ℕ → ℕ → Option (List ℕ × List ℕ)
 store m size address n = write m.window m.bottom m.stack size address n
 
--- the machine with another pc; with another register and the next pc; with other windows and the next pc
+-- the machine with another pc
 abbrev pub jumped : Machine → ℕ → Machine
 jumped m pc = record { pc = pc; regs = m.regs; text = m.text; pool = m.pool; window = m.window; stack = m.stack; bottom = m.bottom }
 
+-- the machine with another register, at the next pc
 abbrev pub with_reg : Machine → ℕ → ℕ → Machine
 with_reg m k n = record { pc = m.pc + 4; regs = put m.regs k n; text = m.text; pool = m.pool; window = m.window; stack = m.stack; bottom = m.bottom }
 
+-- the machine with other windows, at the next pc
 abbrev pub with_windows : Machine → List ℕ → List ℕ → Machine
 with_windows m window stack = record { pc = m.pc + 4; regs = m.regs; text = m.text; pool = m.pool; window = window; stack = stack; bottom = m.bottom }
 
@@ -134,6 +147,7 @@ register_result Divu x y = if y % 2 ^ 64 == 0 then 2 ^ 64 - 1 else x % 2 ^ 64 / 
 register_result Rem x y = if y % 2 ^ 64 == 0 then x % 2 ^ 64 else residue 64 (int_rem (signed 64 x) (signed 64 y))
 register_result Remu x y = if y % 2 ^ 64 == 0 then x % 2 ^ 64 else x % 2 ^ 64 % (y % 2 ^ 64)
 
+-- what an operation with an immediate gives
 abbrev pub immediate_result : ImmediateOp → ℕ → ℤ → ℕ
 immediate_result Addi x imm = plus x imm
 immediate_result Slti x imm = flag (int_lt (signed 64 x) imm)
@@ -142,12 +156,13 @@ immediate_result Xori x imm = bit_xor x (residue 64 imm)
 immediate_result Ori x imm = bit_or x (residue 64 imm)
 immediate_result Andi x imm = bit_and x (residue 64 imm)
 
+-- what a shift by a count from 0 to 63 gives
 abbrev pub shift_result : ShiftOp → ℕ → ℕ → ℕ
 shift_result Slli x count = x * 2 ^ count % 2 ^ 64
 shift_result Srli x count = x % 2 ^ 64 / 2 ^ count
 shift_result Srai x count = residue 64 (int_div_euclid (signed 64 x) (pos (2 ^ count)))
 
--- the bytes of an access, and the register that a loaded number gives
+-- the bytes that a load reads
 abbrev pub load_size : LoadOp → ℕ
 load_size Lb = 1
 load_size Lh = 2
@@ -157,6 +172,7 @@ load_size Lbu = 1
 load_size Lhu = 2
 load_size Lwu = 4
 
+-- what a loaded number gives: the narrow signed loads extend its sign
 abbrev pub load_result : LoadOp → ℕ → ℕ
 load_result Lb n = extended 8 n
 load_result Lh n = extended 16 n
@@ -166,12 +182,14 @@ load_result Lbu n = n
 load_result Lhu n = n
 load_result Lwu n = n
 
+-- the bytes that a store writes
 abbrev pub store_size : StoreOp → ℕ
 store_size Sb = 1
 store_size Sh = 2
 store_size Sw = 4
 store_size Sd = 8
 
+-- whether a branch is taken
 abbrev pub is_taken : BranchOp → ℕ → ℕ → Bool
 is_taken Beq x y = x == y
 is_taken Bne x y = not (x == y)
@@ -184,15 +202,17 @@ is_taken Bgeu x y = nat_le y x
 abbrev pub Gives : Type 0
 Gives = Option Stop × Machine
 
+-- a load that reads no window is a fault at its address
 abbrev pub on_load : Machine → ℕ → Option ℕ → (ℕ → Machine) → Gives
 on_load m address None after = (Some (Fault address), m)
 on_load m address (Some n) after = (None, after n)
 
+-- so is a store that writes none
 abbrev pub on_store : Machine → ℕ → Option (List ℕ × List ℕ) → Gives
 on_store m address None = (Some (Fault address), m)
 on_store m address (Some windows) = (None, with_windows m windows.0 windows.1)
 
--- one instruction: each row of the manual
+-- one instruction, row by row; EBREAK traps with a number from 1 to 6 in x31
 abbrev pub act : Inst → Machine → Gives
 act (Op op rd rs1 rs2) m = (None, with_reg m rd (register_result op (reg m.regs rs1) (reg m.regs rs2)))
 act (OpImm op rd rs1 imm) m = (None, with_reg m rd (immediate_result op (reg m.regs rs1) imm))
@@ -209,13 +229,16 @@ act (Jal rd offset) m = (None, jumped (with_reg m rd (m.pc + 4)) (plus m.pc offs
 act (Jalr rd base offset) m = (None, jumped (with_reg m rd (m.pc + 4)) (plus (reg m.regs base) offset / 2 * 2))
 act Ebreak m = (Some (if nat_le 1 (reg m.regs 31) && nat_le (reg m.regs 31) 6 then Trapped (reg m.regs 31) else Fault m.pc), m)
 
+-- where no instruction stands, a fault at the pc
 abbrev pub act_if : Option Inst → Machine → Gives
 act_if None m = (Some (Fault m.pc), m)
 act_if (Some i) m = act i m
 
+-- one step: at the return address that halts the machine has returned
 abbrev pub step : Machine → Gives
 step m = if m.pc == halt then (Some Returned, m) else act_if (fetch m.text m.pc) m
 
+-- what follows where there was no stop
 abbrev pub go_on : Gives → (Machine → Gives) → Gives
 go_on (None, m) f = f m
 go_on (Some stop, m) f = (Some stop, m)

@@ -13,7 +13,7 @@ mod stop;
 pub use decoder::decode;
 pub use encoder::encode;
 pub use inst::{BranchOp, ImmediateOp, Inst, LoadOp, RegisterOp, ShiftOp, StoreOp};
-pub use laws::{a_stop_changes_nothing, one_word_each};
+pub use laws::{a_stop_changes_nothing, memory_keeps_its_bytes, one_word_each};
 pub use stop::Stop;
 
 #[cfg(test)]

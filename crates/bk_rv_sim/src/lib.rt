@@ -9,3 +9,6 @@ mod steps;
 pub use bk_rv_isa::Stop;
 pub use machine::Machine;
 pub use steps::{run, step};
+
+#[cfg(test)]
+mod tests;
