@@ -29,13 +29,13 @@ condition_below Gt = omega arith
 condition_below Le = omega arith
 condition_below Al = omega arith
 
-shift_below : (s : Shift) → shift_number s < 4
+pub shift_below : (s : Shift) → shift_number s < 4
 shift_below Lsl = omega arith
 shift_below Lsr = omega arith
 shift_below Asr = omega arith
 shift_below Ror = omega arith
 
-amount_below : (s : Shift) (k : ℕ) → is_amount s k ≡ true → k < 32
+pub amount_below : (s : Shift) (k : ℕ) → is_amount s k ≡ true → k < 32
 amount_below Lsl k h = grind (arith, nat_tests)
 amount_below Lsr k h = grind (arith, nat_tests)
 amount_below Asr k h = grind (arith, nat_tests)
@@ -108,7 +108,7 @@ processed_fields c opcode rn rd (ShiftRegister rm shift rs) n l e =
       form = inr (omega (arith, p.condition, p.word, p.r16_below, p.r12_below, p.r8_below, p.r0_below), omega (arith, p.condition, p.word, p.r16_below, p.r12_below, p.r8_below, p.r0_below), omega (arith, p.condition, p.word, p.r16_below, p.r12_below, p.r8_below, p.r0_below));
     }
 
-data_opcode_below : (op : DataOp) → data_opcode op < 16
+pub data_opcode_below : (op : DataOp) → data_opcode op < 16
 data_opcode_below And = omega arith
 data_opcode_below Eor = omega arith
 data_opcode_below Sub = omega arith
@@ -119,17 +119,3 @@ data_opcode_below Sbc = omega arith
 data_opcode_below Rsc = omega arith
 data_opcode_below Orr = omega arith
 data_opcode_below Bic = omega arith
-
--- the fields of data processing
-pub record HasData (c opcode rn rd n : ℕ) : Type 0 where
-  pub condition_is : c ≡ n / 2 ^ 28
-  pub below : opcode * 2 < 32
-  pub opcode_is : opcode ≡ n / 2 ^ 21 % 16
-  pub rn_is : n / 2 ^ 16 % 16 ≡ rn
-  pub rd_is : n / 2 ^ 12 % 16 ≡ rd
-
-pub data_fields : (c : Condition) (op : DataOp) (rd rn : ℕ) (o : Operand2) (n : ℕ) → processed c (data_opcode op * 2) rn rd o ≡ Some n → HasData (condition_number c) (data_opcode op) rn rd n
-data_fields c op rd rn o n e =
-    let b : data_opcode op < 16 = data_opcode_below op in
-    let p = processed_fields c (data_opcode op * 2) rn rd o n (omega arith) e in
-    record { condition_is = p.condition; below = omega arith; opcode_is = omega (arith, p.opcode_is); rn_is = p.rn_is; rd_is = p.rd_is }

@@ -16,11 +16,41 @@ use Rattle.bk_arm_isa.specs.declared.read.Group.TheVariants as G
 use Rattle.bk_arm_isa.specs.declared.Inst.{Inst}
 use Rattle.bk_arm_isa.specs.declared.Inst.TheVariants.{Data, Move, Test, Movw, Movt, Mul, Mls, Umull, Smull, Sdiv, Udiv, Clz, Rbit, Sxtb, Sxth, Uxtb, Uxth, Ldr, Str, Ldrb, Strb, Ldrh, Strh, B, Bl, Bx, Udf}
 use Rattle.bk_arm_isa.specs.Encoding.{condition_number, data_opcode, move_opcode, test_opcode, placed, processed, takes, encoding}
-use Rattle.bk_arm_isa.specs.Groups.{group_of, group_at}
+use Rattle.bk_arm_isa.specs.Decoding.{group_at}
 use Rattle.bk_arm_isa.proofs.Fields.{placed_word, chosen, processed_fields}
 
+-- the group of each instruction
+abbrev pub group_of : Inst → Group
+group_of (Data c op rd rn o) = G.Data
+group_of (Move c op rd o) = G.Move
+group_of (Test c op rn o) = G.Test
+group_of (Movw c rd imm16) = G.Wide
+group_of (Movt c rd imm16) = G.Wide
+group_of (Mul c rd rn rm) = G.Multiply
+group_of (Mls c rd rn rm ra) = G.Multiply
+group_of (Umull c rd_lo rd_hi rn rm) = G.Multiply
+group_of (Smull c rd_lo rd_hi rn rm) = G.Multiply
+group_of (Sdiv c rd rn rm) = G.Media
+group_of (Udiv c rd rn rm) = G.Media
+group_of (Clz c rd rm) = G.Miscellaneous
+group_of (Rbit c rd rm) = G.Media
+group_of (Sxtb c rd rm) = G.Media
+group_of (Sxth c rd rm) = G.Media
+group_of (Uxtb c rd rm) = G.Media
+group_of (Uxth c rd rm) = G.Media
+group_of (Ldr c rt rn imm12) = G.Memory
+group_of (Str c rt rn imm12) = G.Memory
+group_of (Ldrb c rt rn imm12) = G.Memory
+group_of (Strb c rt rn imm12) = G.Memory
+group_of (Ldrh c rt rn imm8) = G.Half
+group_of (Strh c rt rn imm8) = G.Half
+group_of (B c imm24) = G.Branch
+group_of (Bl c imm24) = G.Branch
+group_of (Bx c rm) = G.Miscellaneous
+group_of (Udf imm16) = G.Media
+
 -- the group at the bits of a word
-abbrev grouped : ℕ → Group
+abbrev pub grouped : ℕ → Group
 grouped n = group_at (n / 2 ^ 20 % 256) (n / 2 ^ 4 % 16)
 
 by_bits : (n opcode low : ℕ) → n / 2 ^ 20 % 256 ≡ opcode → n / 2 ^ 4 % 16 ≡ low → grouped n ≡ group_at opcode low
@@ -29,7 +59,7 @@ by_bits n opcode low e f = ap (λ k. group_at k (n / 2 ^ 4 % 16)) e ∙ ap (grou
 by_opcode : (n opcode : ℕ) → n / 2 ^ 20 % 256 ≡ opcode → grouped n ≡ group_at opcode (n / 2 ^ 4 % 16)
 by_opcode n opcode e = ap (λ k. group_at k (n / 2 ^ 4 % 16)) e
 
-less : (a b : ℕ) → nat_lt a b ≡ true → a < b
+pub less : (a b : ℕ) → nat_lt a b ≡ true → a < b
 less a b h = ltb-true a b h
 
 branch_at : (k l : ℕ) → k / 32 ≡ 5 → group_at k l ≡ G.Branch
@@ -75,11 +105,18 @@ move_opcodes : (op : MoveOp) → (move_opcode op ≡ 13) ⊎ (move_opcode op ≡
 move_opcodes Mov = inl refl
 move_opcodes Mvn = inr refl
 
+pub move_opcode_below : (op : MoveOp) → move_opcode op < 16
+move_opcode_below Mov = omega arith
+move_opcode_below Mvn = omega arith
+
 test_opcodes : (op : TestOp) → (test_opcode op < 16) × (test_opcode op / 4 ≡ 2)
 test_opcodes Tst = (omega arith, omega arith)
 test_opcodes Teq = (omega arith, omega arith)
 test_opcodes Cmp = (omega arith, omega arith)
 test_opcodes Cmn = (omega arith, omega arith)
+
+pub test_opcode_below : (op : TestOp) → test_opcode op < 16
+test_opcode_below op = (test_opcodes op).0
 
 -- an instruction's word is in the instruction's group
 pub group_is : (i : Inst) (n : ℕ) → encoding i ≡ Some n → grouped n ≡ group_of i

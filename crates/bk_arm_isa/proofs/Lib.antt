@@ -1,2 +1,4 @@
-pub mod Fields
-pub mod Grouped
+mod Fields
+mod Grouped
+pub mod Decoded
+pub mod Widths

@@ -5,8 +5,10 @@
 //! the table: R15 is no operand, and the flags are written by TST, TEQ, CMP and CMN alone.
 #![tactic(auto)]
 
-ghost use Rattle.std.specs.Prelude.{◌≡◌, ◌↔◌};
+ghost use Rattle.std.specs.Prelude.{◌≡◌, ◌↔◌, ℕ, ◌<◌, ◌^◌, Some};
+ghost use Rattle.bk_arm_isa.specs.declared.Inst.{Inst};
 ghost use Rattle.bk_arm_isa.specs.Encoding.{encoding};
+ghost use Rattle.bk_arm_isa.specs.Decoding.{decoding};
 
 mod read;
 #[cfg(test)]
@@ -369,13 +371,16 @@ pub fn encode(inst: Inst) -> Option<u32>
 
 /// The instruction of a word, or None for a word outside the table.
 pub fn decode(word: u32) -> Option<Inst>
-    ensures { (i : Inst) → result ≡ Some i ↔ encoding i ≡ Some word }
+    ensures value { result ≡ decoding word }
+    ensures inverse { (i : Inst) → result ≡ Some i ↔ encoding i ≡ Some word }
 {
-    // Reading passes over the fixed bits and the limits of the fields.
-    let inst = read::inst(word);
-    if encode(inst) == Some(word) {
-        Some(inst)
-    } else {
-        None
-    }
+    read::decode(word)
 }
+
+/// A law: reading and writing undo each other, no two instructions have one word, and each word has
+/// 32 bits.
+pub fn one_word_each()
+    ensures inverse { (i : Inst) (n : ℕ) → decoding n ≡ Some i ↔ encoding i ≡ Some n }
+    ensures unique { (i j : Inst) (n : ℕ) → encoding i ≡ Some n → encoding j ≡ Some n → i ≡ j }
+    ensures width { (i : Inst) (n : ℕ) → encoding i ≡ Some n → n < 2 ^ 32 }
+{}

@@ -1,19 +1,11 @@
-//! The fields of a word, by its group.
+//! The instruction of a word.
 //!
-//! Where the word is that of an instruction, what is read is that instruction. Any other word is
-//! read as some instruction too, whose word is a different one.
-ghost use Rattle.std.specs.Prelude.{◌≡◌, ℕ, ◌<◌, ◌/◌, ◌%◌, ◌^◌, Some};
-ghost use Rattle.bk_arm_isa.specs.declared.Condition.{Condition};
-ghost use Rattle.bk_arm_isa.specs.declared.DataOp.{DataOp};
-ghost use Rattle.bk_arm_isa.specs.declared.MoveOp.{MoveOp};
-ghost use Rattle.bk_arm_isa.specs.declared.TestOp.{TestOp};
-ghost use Rattle.bk_arm_isa.specs.declared.Shift.{Shift};
-ghost use Rattle.bk_arm_isa.specs.declared.Operand2.{Operand2};
-ghost use Rattle.bk_arm_isa.specs.declared.Inst.{Inst};
-ghost use Rattle.bk_arm_isa.specs.Encoding.{condition_number, data_opcode, move_opcode, test_opcode, shift_number, processed, encoding};
-ghost use Rattle.bk_arm_isa.specs.Groups.{group_of, group_at, data_group_at};
+//! The fields are read by the group that the word's opcode names. Any word is read as some
+//! instruction so; it is in the table where that instruction has this word.
+ghost use Rattle.std.specs.Prelude.{◌≡◌, ◌<◌, ◌/◌, ◌%◌, ◌^◌};
+ghost use Rattle.bk_arm_isa.specs.Decoding.{data_group_at, group_at, condition_of, data_op_of, move_op_of, test_op_of, shift_of, field, operand2_of, data_of, move_of, test_of, wide_of, multiply_of, miscellaneous_of, memory_of, half_of, media_of, branch_of, reading, decoding};
 
-use crate::{Condition, DataOp, Inst, MoveOp, Operand2, Shift, TestOp};
+use crate::{Condition, DataOp, Inst, MoveOp, Operand2, Shift, TestOp, encode};
 use bk_num::sext;
 
 // The groups of instructions that have their fields in one place (section A5.1).
@@ -32,8 +24,22 @@ enum Group {
 }
 
 // The instruction of a word, if it has one.
-pub(crate) fn inst(word: u32) -> Inst
-    ensures { (i : Inst) → encoding i ≡ Some word → result ≡ i }
+#[tactic(auto, unfolding(crate::specs::Decoding::decoding))]
+pub(crate) fn decode(word: u32) -> Option<Inst>
+    ensures { result ≡ decoding word }
+{
+    let inst = inst(word);
+    if encode(inst) == Some(word) {
+        Some(inst)
+    } else {
+        None
+    }
+}
+
+// The fields of a word, with no look at its fixed bits and at limits.
+#[tactic(auto, unfolding(crate::specs::Decoding::reading))]
+fn inst(word: u32) -> Inst
+    ensures { result ≡ reading word }
 {
     match word_group(word) {
         Group::Data => data(word),
@@ -81,13 +87,13 @@ fn data_group(opcode: u32) -> Group
 
 fn field(word: u32, at: u32) -> u8
     requires { at < 32 }
-    ensures { result ≡ word / 2 ^ at % 16 }
+    ensures { result ≡ field word at }
 {
     ((word >> at) % 16) as u8
 }
 
 fn condition(word: u32) -> Condition
-    ensures { (c : Condition) → condition_number c ≡ word / 2 ^ 28 → result ≡ c }
+    ensures { result ≡ condition_of (word / 2 ^ 28) }
 {
     match word >> 28 {
         0 => Condition::Eq,
@@ -109,7 +115,7 @@ fn condition(word: u32) -> Condition
 }
 
 fn data_op(opcode: u32) -> DataOp
-    ensures { (op : DataOp) → data_opcode op ≡ opcode → result ≡ op }
+    ensures { result ≡ data_op_of opcode }
 {
     match opcode {
         0 => DataOp::And,
@@ -126,7 +132,7 @@ fn data_op(opcode: u32) -> DataOp
 }
 
 fn move_op(opcode: u32) -> MoveOp
-    ensures { (op : MoveOp) → move_opcode op ≡ opcode → result ≡ op }
+    ensures { result ≡ move_op_of opcode }
 {
     match opcode {
         13 => MoveOp::Mov,
@@ -135,7 +141,7 @@ fn move_op(opcode: u32) -> MoveOp
 }
 
 fn test_op(opcode: u32) -> TestOp
-    ensures { (op : TestOp) → test_opcode op ≡ opcode → result ≡ op }
+    ensures { result ≡ test_op_of opcode }
 {
     match opcode {
         8 => TestOp::Tst,
@@ -146,7 +152,7 @@ fn test_op(opcode: u32) -> TestOp
 }
 
 fn shift(number: u32) -> Shift
-    ensures { (s : Shift) → shift_number s ≡ number → result ≡ s }
+    ensures { result ≡ shift_of number }
 {
     match number {
         0 => Shift::Lsl,
@@ -157,7 +163,7 @@ fn shift(number: u32) -> Shift
 }
 
 fn operand2(word: u32) -> Operand2
-    ensures { (c : Condition) (opcode rn rd : ℕ) (o : Operand2) → opcode < 32 → processed c opcode rn rd o ≡ Some word → result ≡ o }
+    ensures { result ≡ operand2_of word }
 {
     if (word >> 25) % 2 == 1 {
         return Operand2::Immediate {
@@ -181,9 +187,8 @@ fn operand2(word: u32) -> Operand2
     }
 }
 
-#[tactic(auto, using(crate::proofs::Fields::data_fields))]
 fn data(word: u32) -> Inst
-    ensures { (i : Inst) → group_of i ≡ Group.Data → encoding i ≡ Some word → result ≡ i }
+    ensures { result ≡ data_of word }
 {
     let (condition, op) = (condition(word), data_op((word >> 21) % 16));
     Inst::Data {
@@ -196,7 +201,7 @@ fn data(word: u32) -> Inst
 }
 
 fn moved(word: u32) -> Inst
-    ensures { (i : Inst) → group_of i ≡ Group.Move → encoding i ≡ Some word → result ≡ i }
+    ensures { result ≡ move_of word }
 {
     let (condition, op) = (condition(word), move_op((word >> 21) % 16));
     Inst::Move {
@@ -208,7 +213,7 @@ fn moved(word: u32) -> Inst
 }
 
 fn test(word: u32) -> Inst
-    ensures { (i : Inst) → group_of i ≡ Group.Test → encoding i ≡ Some word → result ≡ i }
+    ensures { result ≡ test_of word }
 {
     let (condition, op) = (condition(word), test_op((word >> 21) % 16));
     Inst::Test {
@@ -220,7 +225,7 @@ fn test(word: u32) -> Inst
 }
 
 fn wide(word: u32) -> Inst
-    ensures { (i : Inst) → group_of i ≡ Group.Wide → encoding i ≡ Some word → result ≡ i }
+    ensures { result ≡ wide_of word }
 {
     let (condition, rd) = (condition(word), field(word, 12));
     let imm16 = ((word >> 16) % 16 * 4096 + word % 4096) as u16;
@@ -240,7 +245,7 @@ fn wide(word: u32) -> Inst
 }
 
 fn multiply(word: u32) -> Inst
-    ensures { (i : Inst) → group_of i ≡ Group.Multiply → encoding i ≡ Some word → result ≡ i }
+    ensures { result ≡ multiply_of word }
 {
     let condition = condition(word);
     let (high, low) = (field(word, 16), field(word, 12));
@@ -277,7 +282,7 @@ fn multiply(word: u32) -> Inst
 }
 
 fn miscellaneous(word: u32) -> Inst
-    ensures { (i : Inst) → group_of i ≡ Group.Miscellaneous → encoding i ≡ Some word → result ≡ i }
+    ensures { result ≡ miscellaneous_of word }
 {
     let (condition, rm) = (condition(word), field(word, 0));
     if (word >> 22) % 2 == 0 {
@@ -292,7 +297,7 @@ fn miscellaneous(word: u32) -> Inst
 }
 
 fn memory(word: u32) -> Inst
-    ensures { (i : Inst) → group_of i ≡ Group.Memory → encoding i ≡ Some word → result ≡ i }
+    ensures { result ≡ memory_of word }
 {
     let condition = condition(word);
     let (rt, rn, imm12) = (field(word, 12), field(word, 16), (word % 4096) as u16);
@@ -325,7 +330,7 @@ fn memory(word: u32) -> Inst
 }
 
 fn half(word: u32) -> Inst
-    ensures { (i : Inst) → group_of i ≡ Group.Half → encoding i ≡ Some word → result ≡ i }
+    ensures { result ≡ half_of word }
 {
     let condition = condition(word);
     let (rt, rn, imm8) = (
@@ -351,7 +356,7 @@ fn half(word: u32) -> Inst
 }
 
 fn media(word: u32) -> Inst
-    ensures { (i : Inst) → group_of i ≡ Group.Media → encoding i ≡ Some word → result ≡ i }
+    ensures { result ≡ media_of word }
 {
     let condition = condition(word);
     let (rd, rm) = (field(word, 12), field(word, 0));
@@ -385,7 +390,7 @@ fn media(word: u32) -> Inst
 }
 
 fn branch(word: u32) -> Inst
-    ensures { (i : Inst) → group_of i ≡ Group.Branch → encoding i ≡ Some word → result ≡ i }
+    ensures { result ≡ branch_of word }
 {
     let (condition, imm24) = (condition(word), sext(24, word as u64) as i32);
     if (word >> 24) % 2 == 0 {

@@ -1,1135 +1,387 @@
+use super::Condition::*;
+use super::DataOp::*;
+use super::MoveOp::*;
+use super::Shift::*;
+use super::TestOp::*;
 use super::*;
 
-// Words with the instructions that an independent assembler reads them as.
-const TABLE: [(u32, Inst); 88] = [
-    // movw r11,#8 to bx r14: a whole function
-    (
-        0xe300b008,
-        Inst::Movw {
-            condition: Condition::Al,
-            rd: 11,
-            imm16: 8,
-        },
-    ),
-    (
-        0xe04db00b,
-        Inst::Data {
-            condition: Condition::Al,
-            op: DataOp::Sub,
-            rd: 11,
-            rn: 13,
-            operand2: Operand2::ShiftImmediate {
-                rm: 11,
-                shift: Shift::Lsl,
-                imm5: 0,
-            },
-        },
-    ),
-    (
-        0xe15b000a,
-        Inst::Test {
-            condition: Condition::Al,
-            op: TestOp::Cmp,
-            rn: 11,
-            operand2: Operand2::ShiftImmediate {
-                rm: 10,
-                shift: Shift::Lsl,
-                imm5: 0,
-            },
-        },
-    ),
-    (
-        0x2a000000,
-        Inst::B {
-            condition: Condition::Cs,
-            imm24: 0,
-        },
-    ),
-    (0xe7f000f5, Inst::Udf { imm16: 5 }),
-    (
-        0xe1a0d00b,
-        Inst::Move {
-            condition: Condition::Al,
-            op: MoveOp::Mov,
-            rd: 13,
-            operand2: Operand2::ShiftImmediate {
-                rm: 11,
-                shift: Shift::Lsl,
-                imm5: 0,
-            },
-        },
-    ),
-    (
-        0xe58de004,
-        Inst::Str {
-            condition: Condition::Al,
-            rt: 14,
-            rn: 13,
-            imm12: 4,
-        },
-    ),
-    (
-        0xe59d0008,
-        Inst::Ldr {
-            condition: Condition::Al,
-            rt: 0,
-            rn: 13,
-            imm12: 8,
-        },
-    ),
-    (
-        0xe59d100c,
-        Inst::Ldr {
-            condition: Condition::Al,
-            rt: 1,
-            rn: 13,
-            imm12: 12,
-        },
-    ),
-    (
-        0xe0800001,
-        Inst::Data {
-            condition: Condition::Al,
-            op: DataOp::Add,
-            rd: 0,
-            rn: 0,
-            operand2: Operand2::ShiftImmediate {
-                rm: 1,
-                shift: Shift::Lsl,
-                imm5: 0,
-            },
-        },
-    ),
-    (
-        0xe58d0010,
-        Inst::Str {
-            condition: Condition::Al,
-            rt: 0,
-            rn: 13,
-            imm12: 16,
-        },
-    ),
-    (
-        0xe59de004,
-        Inst::Ldr {
-            condition: Condition::Al,
-            rt: 14,
-            rn: 13,
-            imm12: 4,
-        },
-    ),
-    (
-        0xe08dd00b,
-        Inst::Data {
-            condition: Condition::Al,
-            op: DataOp::Add,
-            rd: 13,
-            rn: 13,
-            operand2: Operand2::ShiftImmediate {
-                rm: 11,
-                shift: Shift::Lsl,
-                imm5: 0,
-            },
-        },
-    ),
-    (
-        0xe12fff1e,
-        Inst::Bx {
-            condition: Condition::Al,
-            rm: 14,
-        },
-    ),
-    (
-        0xe0010002,
-        Inst::Data {
-            condition: Condition::Al,
-            op: DataOp::And,
-            rd: 0,
-            rn: 1,
-            operand2: Operand2::ShiftImmediate {
-                rm: 2,
-                shift: Shift::Lsl,
-                imm5: 0,
-            },
-        },
-    ),
-    (
-        0x122de4ff,
-        Inst::Data {
-            condition: Condition::Ne,
-            op: DataOp::Eor,
-            rd: 14,
-            rn: 13,
-            operand2: Operand2::Immediate {
-                imm8: 255,
-                rotation: 4,
-            },
-        },
-    ),
-    (
-        0x2040ef8e,
-        Inst::Data {
-            condition: Condition::Cs,
-            op: DataOp::Sub,
-            rd: 14,
-            rn: 0,
-            operand2: Operand2::ShiftImmediate {
-                rm: 14,
-                shift: Shift::Lsl,
-                imm5: 31,
-            },
-        },
-    ),
-    (
-        0x306e00ae,
-        Inst::Data {
-            condition: Condition::Cc,
-            op: DataOp::Rsb,
-            rd: 0,
-            rn: 14,
-            operand2: Operand2::ShiftImmediate {
-                rm: 14,
-                shift: Shift::Lsr,
-                imm5: 1,
-            },
-        },
-    ),
-    (
-        0x40821fa3,
-        Inst::Data {
-            condition: Condition::Mi,
-            op: DataOp::Add,
-            rd: 1,
-            rn: 2,
-            operand2: Operand2::ShiftImmediate {
-                rm: 3,
-                shift: Shift::Lsr,
-                imm5: 31,
-            },
-        },
-    ),
-    (
-        0x50a210c3,
-        Inst::Data {
-            condition: Condition::Pl,
-            op: DataOp::Adc,
-            rd: 1,
-            rn: 2,
-            operand2: Operand2::ShiftImmediate {
-                rm: 3,
-                shift: Shift::Asr,
-                imm5: 1,
-            },
-        },
-    ),
-    (
-        0x60c21fc3,
-        Inst::Data {
-            condition: Condition::Vs,
-            op: DataOp::Sbc,
-            rd: 1,
-            rn: 2,
-            operand2: Operand2::ShiftImmediate {
-                rm: 3,
-                shift: Shift::Asr,
-                imm5: 31,
-            },
-        },
-    ),
-    (
-        0x70e210e3,
-        Inst::Data {
-            condition: Condition::Vc,
-            op: DataOp::Rsc,
-            rd: 1,
-            rn: 2,
-            operand2: Operand2::ShiftImmediate {
-                rm: 3,
-                shift: Shift::Ror,
-                imm5: 1,
-            },
-        },
-    ),
-    (
-        0x81821fe3,
-        Inst::Data {
-            condition: Condition::Hi,
-            op: DataOp::Orr,
-            rd: 1,
-            rn: 2,
-            operand2: Operand2::ShiftImmediate {
-                rm: 3,
-                shift: Shift::Ror,
-                imm5: 31,
-            },
-        },
-    ),
-    (
-        0x91c21413,
-        Inst::Data {
-            condition: Condition::Ls,
-            op: DataOp::Bic,
-            rd: 1,
-            rn: 2,
-            operand2: Operand2::ShiftRegister {
-                rm: 3,
-                shift: Shift::Lsl,
-                rs: 4,
-            },
-        },
-    ),
-    (
-        0xa08eee7e,
-        Inst::Data {
-            condition: Condition::Ge,
-            op: DataOp::Add,
-            rd: 14,
-            rn: 14,
-            operand2: Operand2::ShiftRegister {
-                rm: 14,
-                shift: Shift::Ror,
-                rs: 14,
-            },
-        },
-    ),
-    (
-        0xb0800030,
-        Inst::Data {
-            condition: Condition::Lt,
-            op: DataOp::Add,
-            rd: 0,
-            rn: 0,
-            operand2: Operand2::ShiftRegister {
-                rm: 0,
-                shift: Shift::Lsr,
-                rs: 0,
-            },
-        },
-    ),
-    (
-        0xc28000ff,
-        Inst::Data {
-            condition: Condition::Gt,
-            op: DataOp::Add,
-            rd: 0,
-            rn: 0,
-            operand2: Operand2::Immediate {
-                imm8: 255,
-                rotation: 0,
-            },
-        },
-    ),
-    (
-        0xd0800050,
-        Inst::Data {
-            condition: Condition::Le,
-            op: DataOp::Add,
-            rd: 0,
-            rn: 0,
-            operand2: Operand2::ShiftRegister {
-                rm: 0,
-                shift: Shift::Asr,
-                rs: 0,
-            },
-        },
-    ),
-    (
-        0xe1a0e000,
-        Inst::Move {
-            condition: Condition::Al,
-            op: MoveOp::Mov,
-            rd: 14,
-            operand2: Operand2::ShiftImmediate {
-                rm: 0,
-                shift: Shift::Lsl,
-                imm5: 0,
-            },
-        },
-    ),
-    (
-        0xe3e00000,
-        Inst::Move {
-            condition: Condition::Al,
-            op: MoveOp::Mvn,
-            rd: 0,
-            operand2: Operand2::Immediate {
-                imm8: 0,
-                rotation: 0,
-            },
-        },
-    ),
-    (
-        0x11e00e1e,
-        Inst::Move {
-            condition: Condition::Ne,
-            op: MoveOp::Mvn,
-            rd: 0,
-            operand2: Operand2::ShiftRegister {
-                rm: 14,
-                shift: Shift::Lsl,
-                rs: 14,
-            },
-        },
-    ),
-    (
-        0xe1a00fce,
-        Inst::Move {
-            condition: Condition::Al,
-            op: MoveOp::Mov,
-            rd: 0,
-            operand2: Operand2::ShiftImmediate {
-                rm: 14,
-                shift: Shift::Asr,
-                imm5: 31,
-            },
-        },
-    ),
-    (
-        0xe3100001,
-        Inst::Test {
-            condition: Condition::Al,
-            op: TestOp::Tst,
-            rn: 0,
-            operand2: Operand2::Immediate {
-                imm8: 1,
-                rotation: 0,
-            },
-        },
-    ),
-    (
-        0xe11e000e,
-        Inst::Test {
-            condition: Condition::Al,
-            op: TestOp::Tst,
-            rn: 14,
-            operand2: Operand2::ShiftImmediate {
-                rm: 14,
-                shift: Shift::Lsl,
-                imm5: 0,
-            },
-        },
-    ),
-    (
-        0xe33100ff,
-        Inst::Test {
-            condition: Condition::Al,
-            op: TestOp::Teq,
-            rn: 1,
-            operand2: Operand2::Immediate {
-                imm8: 255,
-                rotation: 0,
-            },
-        },
-    ),
-    (
-        0x11310002,
-        Inst::Test {
-            condition: Condition::Ne,
-            op: TestOp::Teq,
-            rn: 1,
-            operand2: Operand2::ShiftImmediate {
-                rm: 2,
-                shift: Shift::Lsl,
-                imm5: 0,
-            },
-        },
-    ),
-    (
-        0xe35e01ff,
-        Inst::Test {
-            condition: Condition::Al,
-            op: TestOp::Cmp,
-            rn: 14,
-            operand2: Operand2::Immediate {
-                imm8: 255,
-                rotation: 1,
-            },
-        },
-    ),
-    (
-        0xe1510312,
-        Inst::Test {
-            condition: Condition::Al,
-            op: TestOp::Cmp,
-            rn: 1,
-            operand2: Operand2::ShiftRegister {
-                rm: 2,
-                shift: Shift::Lsl,
-                rs: 3,
-            },
-        },
-    ),
-    (
-        0xd1700fee,
-        Inst::Test {
-            condition: Condition::Le,
-            op: TestOp::Cmn,
-            rn: 0,
-            operand2: Operand2::ShiftImmediate {
-                rm: 14,
-                shift: Shift::Ror,
-                imm5: 31,
-            },
-        },
-    ),
-    (
-        0xe30fefff,
-        Inst::Movw {
-            condition: Condition::Al,
-            rd: 14,
-            imm16: 65535,
-        },
-    ),
-    (
-        0xe3000000,
-        Inst::Movw {
-            condition: Condition::Al,
-            rd: 0,
-            imm16: 0,
-        },
-    ),
-    (
-        0x13481001,
-        Inst::Movt {
-            condition: Condition::Ne,
-            rd: 1,
-            imm16: 32769,
-        },
-    ),
-    (
-        0xe00e0d90,
-        Inst::Mul {
-            condition: Condition::Al,
-            rd: 14,
-            rn: 0,
-            rm: 13,
-        },
-    ),
-    (
-        0x0000009e,
-        Inst::Mul {
-            condition: Condition::Eq,
-            rd: 0,
-            rn: 14,
-            rm: 0,
-        },
-    ),
-    (
-        0xe0614392,
-        Inst::Mls {
-            condition: Condition::Al,
-            rd: 1,
-            rn: 2,
-            rm: 3,
-            ra: 4,
-        },
-    ),
-    (
-        0xd06e0c9d,
-        Inst::Mls {
-            condition: Condition::Le,
-            rd: 14,
-            rn: 13,
-            rm: 12,
-            ra: 0,
-        },
-    ),
-    (
-        0xe0821493,
-        Inst::Umull {
-            condition: Condition::Al,
-            rd_lo: 1,
-            rd_hi: 2,
-            rn: 3,
-            rm: 4,
-        },
-    ),
-    (
-        0x1080ec9d,
-        Inst::Umull {
-            condition: Condition::Ne,
-            rd_lo: 14,
-            rd_hi: 0,
-            rn: 13,
-            rm: 12,
-        },
-    ),
-    (
-        0xe0c21493,
-        Inst::Smull {
-            condition: Condition::Al,
-            rd_lo: 1,
-            rd_hi: 2,
-            rn: 3,
-            rm: 4,
-        },
-    ),
-    (
-        0x00ce0e90,
-        Inst::Smull {
-            condition: Condition::Eq,
-            rd_lo: 0,
-            rd_hi: 14,
-            rn: 0,
-            rm: 14,
-        },
-    ),
-    (
-        0xe711f312,
-        Inst::Sdiv {
-            condition: Condition::Al,
-            rd: 1,
-            rn: 2,
-            rm: 3,
-        },
-    ),
-    (
-        0xc71ef01e,
-        Inst::Sdiv {
-            condition: Condition::Gt,
-            rd: 14,
-            rn: 14,
-            rm: 0,
-        },
-    ),
-    (
-        0xe731f312,
-        Inst::Udiv {
-            condition: Condition::Al,
-            rd: 1,
-            rn: 2,
-            rm: 3,
-        },
-    ),
-    (
-        0x4730fe10,
-        Inst::Udiv {
-            condition: Condition::Mi,
-            rd: 0,
-            rn: 0,
-            rm: 14,
-        },
-    ),
-    (
-        0xe16f1f12,
-        Inst::Clz {
-            condition: Condition::Al,
-            rd: 1,
-            rm: 2,
-        },
-    ),
-    (
-        0x116fef10,
-        Inst::Clz {
-            condition: Condition::Ne,
-            rd: 14,
-            rm: 0,
-        },
-    ),
-    (
-        0xe6ff1f32,
-        Inst::Rbit {
-            condition: Condition::Al,
-            rd: 1,
-            rm: 2,
-        },
-    ),
-    (
-        0x16ff0f3e,
-        Inst::Rbit {
-            condition: Condition::Ne,
-            rd: 0,
-            rm: 14,
-        },
-    ),
-    (
-        0xe6af1072,
-        Inst::Sxtb {
-            condition: Condition::Al,
-            rd: 1,
-            rm: 2,
-        },
-    ),
-    (
-        0x66afe070,
-        Inst::Sxtb {
-            condition: Condition::Vs,
-            rd: 14,
-            rm: 0,
-        },
-    ),
-    (
-        0xe6bf1072,
-        Inst::Sxth {
-            condition: Condition::Al,
-            rd: 1,
-            rm: 2,
-        },
-    ),
-    (
-        0x76bf007e,
-        Inst::Sxth {
-            condition: Condition::Vc,
-            rd: 0,
-            rm: 14,
-        },
-    ),
-    (
-        0xe6ef1072,
-        Inst::Uxtb {
-            condition: Condition::Al,
-            rd: 1,
-            rm: 2,
-        },
-    ),
-    (
-        0x86efe07e,
-        Inst::Uxtb {
-            condition: Condition::Hi,
-            rd: 14,
-            rm: 14,
-        },
-    ),
-    (
-        0xe6ff1072,
-        Inst::Uxth {
-            condition: Condition::Al,
-            rd: 1,
-            rm: 2,
-        },
-    ),
-    (
-        0x96ff0070,
-        Inst::Uxth {
-            condition: Condition::Ls,
-            rd: 0,
-            rm: 0,
-        },
-    ),
-    (
-        0xe59e0fff,
-        Inst::Ldr {
-            condition: Condition::Al,
-            rt: 0,
-            rn: 14,
-            imm12: 4095,
-        },
-    ),
-    (
-        0x1590e000,
-        Inst::Ldr {
-            condition: Condition::Ne,
-            rt: 14,
-            rn: 0,
-            imm12: 0,
-        },
-    ),
-    (
-        0xe58de800,
-        Inst::Str {
-            condition: Condition::Al,
-            rt: 14,
-            rn: 13,
-            imm12: 2048,
-        },
-    ),
-    (
-        0x058e0fff,
-        Inst::Str {
-            condition: Condition::Eq,
-            rt: 0,
-            rn: 14,
-            imm12: 4095,
-        },
-    ),
-    (
-        0xe5d21001,
-        Inst::Ldrb {
-            condition: Condition::Al,
-            rt: 1,
-            rn: 2,
-            imm12: 1,
-        },
-    ),
-    (
-        0x05d0efff,
-        Inst::Ldrb {
-            condition: Condition::Eq,
-            rt: 14,
-            rn: 0,
-            imm12: 4095,
-        },
-    ),
-    (
-        0xe5c21003,
-        Inst::Strb {
-            condition: Condition::Al,
-            rt: 1,
-            rn: 2,
-            imm12: 3,
-        },
-    ),
-    (
-        0x15ce0000,
-        Inst::Strb {
-            condition: Condition::Ne,
-            rt: 0,
-            rn: 14,
-            imm12: 0,
-        },
-    ),
-    (
-        0xe1d21fbf,
-        Inst::Ldrh {
-            condition: Condition::Al,
-            rt: 1,
-            rn: 2,
-            imm8: 255,
-        },
-    ),
-    (
-        0x01d0e1b0,
-        Inst::Ldrh {
-            condition: Condition::Eq,
-            rt: 14,
-            rn: 0,
-            imm8: 16,
-        },
-    ),
-    (
-        0xe1c210bf,
-        Inst::Strh {
-            condition: Condition::Al,
-            rt: 1,
-            rn: 2,
-            imm8: 15,
-        },
-    ),
-    (
-        0x11ce0fb0,
-        Inst::Strh {
-            condition: Condition::Ne,
-            rt: 0,
-            rn: 14,
-            imm8: 240,
-        },
-    ),
-    (
-        0xea000000,
-        Inst::B {
-            condition: Condition::Al,
-            imm24: 0,
-        },
-    ),
-    (
-        0x1a7fffff,
-        Inst::B {
-            condition: Condition::Ne,
-            imm24: 8388607,
-        },
-    ),
-    (
-        0xeb800000,
-        Inst::Bl {
-            condition: Condition::Al,
-            imm24: -8388608,
-        },
-    ),
-    (
-        0x0bffffff,
-        Inst::Bl {
-            condition: Condition::Eq,
-            imm24: -1,
-        },
-    ),
-    (
-        0x012fff10,
-        Inst::Bx {
-            condition: Condition::Eq,
-            rm: 0,
-        },
-    ),
-    (0xe7ffffff, Inst::Udf { imm16: 65535 }),
-    (0xe7f000f0, Inst::Udf { imm16: 0 }),
-    (0xe7f001f0, Inst::Udf { imm16: 16 }),
-    // 4 and 0 with a rotation that they do not need
-    (
-        0xe3a00f01,
-        Inst::Move {
-            condition: Condition::Al,
-            op: MoveOp::Mov,
-            rd: 0,
-            operand2: Operand2::Immediate {
-                imm8: 1,
-                rotation: 15,
-            },
-        },
-    ),
-    (
-        0xe3a00100,
-        Inst::Move {
-            condition: Condition::Al,
-            op: MoveOp::Mov,
-            rd: 0,
-            operand2: Operand2::Immediate {
-                imm8: 0,
-                rotation: 1,
-            },
-        },
-    ),
-];
+fn immediate(imm8: u8, rotation: u8) -> Operand2 {
+    Operand2::Immediate { imm8, rotation }
+}
+
+fn shifted(rm: u8, shift: Shift, imm5: u8) -> Operand2 {
+    Operand2::ShiftImmediate { rm, shift, imm5 }
+}
+
+fn shifted_by(rm: u8, shift: Shift, rs: u8) -> Operand2 {
+    Operand2::ShiftRegister { rm, shift, rs }
+}
+
+fn data(condition: Condition, op: DataOp, rd: u8, rn: u8, operand2: Operand2) -> Inst {
+    Inst::Data {
+        condition,
+        op,
+        rd,
+        rn,
+        operand2,
+    }
+}
+
+fn moved(condition: Condition, op: MoveOp, rd: u8, operand2: Operand2) -> Inst {
+    Inst::Move {
+        condition,
+        op,
+        rd,
+        operand2,
+    }
+}
+
+fn test(condition: Condition, op: TestOp, rn: u8, operand2: Operand2) -> Inst {
+    Inst::Test {
+        condition,
+        op,
+        rn,
+        operand2,
+    }
+}
+
+fn movw(condition: Condition, rd: u8, imm16: u16) -> Inst {
+    Inst::Movw {
+        condition,
+        rd,
+        imm16,
+    }
+}
+
+fn movt(condition: Condition, rd: u8, imm16: u16) -> Inst {
+    Inst::Movt {
+        condition,
+        rd,
+        imm16,
+    }
+}
+
+fn mul(condition: Condition, rd: u8, rn: u8, rm: u8) -> Inst {
+    Inst::Mul {
+        condition,
+        rd,
+        rn,
+        rm,
+    }
+}
+
+fn sdiv(condition: Condition, rd: u8, rn: u8, rm: u8) -> Inst {
+    Inst::Sdiv {
+        condition,
+        rd,
+        rn,
+        rm,
+    }
+}
+
+fn udiv(condition: Condition, rd: u8, rn: u8, rm: u8) -> Inst {
+    Inst::Udiv {
+        condition,
+        rd,
+        rn,
+        rm,
+    }
+}
+
+fn mls(condition: Condition, rd: u8, rn: u8, rm: u8, ra: u8) -> Inst {
+    Inst::Mls {
+        condition,
+        rd,
+        rn,
+        rm,
+        ra,
+    }
+}
+
+fn umull(condition: Condition, rd_lo: u8, rd_hi: u8, rn: u8, rm: u8) -> Inst {
+    Inst::Umull {
+        condition,
+        rd_lo,
+        rd_hi,
+        rn,
+        rm,
+    }
+}
+
+fn smull(condition: Condition, rd_lo: u8, rd_hi: u8, rn: u8, rm: u8) -> Inst {
+    Inst::Smull {
+        condition,
+        rd_lo,
+        rd_hi,
+        rn,
+        rm,
+    }
+}
+
+fn clz(condition: Condition, rd: u8, rm: u8) -> Inst {
+    Inst::Clz { condition, rd, rm }
+}
+
+fn rbit(condition: Condition, rd: u8, rm: u8) -> Inst {
+    Inst::Rbit { condition, rd, rm }
+}
+
+fn sxtb(condition: Condition, rd: u8, rm: u8) -> Inst {
+    Inst::Sxtb { condition, rd, rm }
+}
+
+fn sxth(condition: Condition, rd: u8, rm: u8) -> Inst {
+    Inst::Sxth { condition, rd, rm }
+}
+
+fn uxtb(condition: Condition, rd: u8, rm: u8) -> Inst {
+    Inst::Uxtb { condition, rd, rm }
+}
+
+fn uxth(condition: Condition, rd: u8, rm: u8) -> Inst {
+    Inst::Uxth { condition, rd, rm }
+}
+
+fn ldr(condition: Condition, rt: u8, rn: u8, imm12: u16) -> Inst {
+    Inst::Ldr {
+        condition,
+        rt,
+        rn,
+        imm12,
+    }
+}
+
+fn str(condition: Condition, rt: u8, rn: u8, imm12: u16) -> Inst {
+    Inst::Str {
+        condition,
+        rt,
+        rn,
+        imm12,
+    }
+}
+
+fn ldrb(condition: Condition, rt: u8, rn: u8, imm12: u16) -> Inst {
+    Inst::Ldrb {
+        condition,
+        rt,
+        rn,
+        imm12,
+    }
+}
+
+fn strb(condition: Condition, rt: u8, rn: u8, imm12: u16) -> Inst {
+    Inst::Strb {
+        condition,
+        rt,
+        rn,
+        imm12,
+    }
+}
+
+fn ldrh(condition: Condition, rt: u8, rn: u8, imm8: u8) -> Inst {
+    Inst::Ldrh {
+        condition,
+        rt,
+        rn,
+        imm8,
+    }
+}
+
+fn strh(condition: Condition, rt: u8, rn: u8, imm8: u8) -> Inst {
+    Inst::Strh {
+        condition,
+        rt,
+        rn,
+        imm8,
+    }
+}
+
+fn b(condition: Condition, imm24: i32) -> Inst {
+    Inst::B { condition, imm24 }
+}
+
+fn bl(condition: Condition, imm24: i32) -> Inst {
+    Inst::Bl { condition, imm24 }
+}
+
+fn bx(condition: Condition, rm: u8) -> Inst {
+    Inst::Bx { condition, rm }
+}
+
+fn udf(imm16: u16) -> Inst {
+    Inst::Udf { imm16 }
+}
+
+// Words with the instructions that an independent assembler reads them as; the first are a function.
+fn table() -> [(u32, Inst); 88] {
+    [
+        (0xe300b008, movw(Al, 11, 8)),
+        (0xe04db00b, data(Al, Sub, 11, 13, shifted(11, Lsl, 0))),
+        (0xe15b000a, test(Al, Cmp, 11, shifted(10, Lsl, 0))),
+        (0x2a000000, b(Cs, 0)),
+        (0xe7f000f5, udf(5)),
+        (0xe1a0d00b, moved(Al, Mov, 13, shifted(11, Lsl, 0))),
+        (0xe58de004, str(Al, 14, 13, 4)),
+        (0xe59d0008, ldr(Al, 0, 13, 8)),
+        (0xe59d100c, ldr(Al, 1, 13, 12)),
+        (0xe0800001, data(Al, Add, 0, 0, shifted(1, Lsl, 0))),
+        (0xe58d0010, str(Al, 0, 13, 16)),
+        (0xe59de004, ldr(Al, 14, 13, 4)),
+        (0xe08dd00b, data(Al, Add, 13, 13, shifted(11, Lsl, 0))),
+        (0xe12fff1e, bx(Al, 14)),
+        (0xe0010002, data(Al, And, 0, 1, shifted(2, Lsl, 0))),
+        (0x122de4ff, data(Ne, Eor, 14, 13, immediate(255, 4))),
+        (0x2040ef8e, data(Cs, Sub, 14, 0, shifted(14, Lsl, 31))),
+        (0x306e00ae, data(Cc, Rsb, 0, 14, shifted(14, Lsr, 1))),
+        (0x40821fa3, data(Mi, Add, 1, 2, shifted(3, Lsr, 31))),
+        (0x50a210c3, data(Pl, Adc, 1, 2, shifted(3, Asr, 1))),
+        (0x60c21fc3, data(Vs, Sbc, 1, 2, shifted(3, Asr, 31))),
+        (0x70e210e3, data(Vc, Rsc, 1, 2, shifted(3, Ror, 1))),
+        (0x81821fe3, data(Hi, Orr, 1, 2, shifted(3, Ror, 31))),
+        (0x91c21413, data(Ls, Bic, 1, 2, shifted_by(3, Lsl, 4))),
+        (0xa08eee7e, data(Ge, Add, 14, 14, shifted_by(14, Ror, 14))),
+        (0xb0800030, data(Lt, Add, 0, 0, shifted_by(0, Lsr, 0))),
+        (0xc28000ff, data(Gt, Add, 0, 0, immediate(255, 0))),
+        (0xd0800050, data(Le, Add, 0, 0, shifted_by(0, Asr, 0))),
+        (0xe1a0e000, moved(Al, Mov, 14, shifted(0, Lsl, 0))),
+        (0xe3e00000, moved(Al, Mvn, 0, immediate(0, 0))),
+        (0x11e00e1e, moved(Ne, Mvn, 0, shifted_by(14, Lsl, 14))),
+        (0xe1a00fce, moved(Al, Mov, 0, shifted(14, Asr, 31))),
+        (0xe3100001, test(Al, Tst, 0, immediate(1, 0))),
+        (0xe11e000e, test(Al, Tst, 14, shifted(14, Lsl, 0))),
+        (0xe33100ff, test(Al, Teq, 1, immediate(255, 0))),
+        (0x11310002, test(Ne, Teq, 1, shifted(2, Lsl, 0))),
+        (0xe35e01ff, test(Al, Cmp, 14, immediate(255, 1))),
+        (0xe1510312, test(Al, Cmp, 1, shifted_by(2, Lsl, 3))),
+        (0xd1700fee, test(Le, Cmn, 0, shifted(14, Ror, 31))),
+        (0xe30fefff, movw(Al, 14, 65535)),
+        (0xe3000000, movw(Al, 0, 0)),
+        (0x13481001, movt(Ne, 1, 32769)),
+        (0xe00e0d90, mul(Al, 14, 0, 13)),
+        (0x0000009e, mul(Eq, 0, 14, 0)),
+        (0xe0614392, mls(Al, 1, 2, 3, 4)),
+        (0xd06e0c9d, mls(Le, 14, 13, 12, 0)),
+        (0xe0821493, umull(Al, 1, 2, 3, 4)),
+        (0x1080ec9d, umull(Ne, 14, 0, 13, 12)),
+        (0xe0c21493, smull(Al, 1, 2, 3, 4)),
+        (0x00ce0e90, smull(Eq, 0, 14, 0, 14)),
+        (0xe711f312, sdiv(Al, 1, 2, 3)),
+        (0xc71ef01e, sdiv(Gt, 14, 14, 0)),
+        (0xe731f312, udiv(Al, 1, 2, 3)),
+        (0x4730fe10, udiv(Mi, 0, 0, 14)),
+        (0xe16f1f12, clz(Al, 1, 2)),
+        (0x116fef10, clz(Ne, 14, 0)),
+        (0xe6ff1f32, rbit(Al, 1, 2)),
+        (0x16ff0f3e, rbit(Ne, 0, 14)),
+        (0xe6af1072, sxtb(Al, 1, 2)),
+        (0x66afe070, sxtb(Vs, 14, 0)),
+        (0xe6bf1072, sxth(Al, 1, 2)),
+        (0x76bf007e, sxth(Vc, 0, 14)),
+        (0xe6ef1072, uxtb(Al, 1, 2)),
+        (0x86efe07e, uxtb(Hi, 14, 14)),
+        (0xe6ff1072, uxth(Al, 1, 2)),
+        (0x96ff0070, uxth(Ls, 0, 0)),
+        (0xe59e0fff, ldr(Al, 0, 14, 4095)),
+        (0x1590e000, ldr(Ne, 14, 0, 0)),
+        (0xe58de800, str(Al, 14, 13, 2048)),
+        (0x058e0fff, str(Eq, 0, 14, 4095)),
+        (0xe5d21001, ldrb(Al, 1, 2, 1)),
+        (0x05d0efff, ldrb(Eq, 14, 0, 4095)),
+        (0xe5c21003, strb(Al, 1, 2, 3)),
+        (0x15ce0000, strb(Ne, 0, 14, 0)),
+        (0xe1d21fbf, ldrh(Al, 1, 2, 255)),
+        (0x01d0e1b0, ldrh(Eq, 14, 0, 16)),
+        (0xe1c210bf, strh(Al, 1, 2, 15)),
+        (0x11ce0fb0, strh(Ne, 0, 14, 240)),
+        (0xea000000, b(Al, 0)),
+        (0x1a7fffff, b(Ne, 8388607)),
+        (0xeb800000, bl(Al, -8388608)),
+        (0x0bffffff, bl(Eq, -1)),
+        (0x012fff10, bx(Eq, 0)),
+        (0xe7ffffff, udf(65535)),
+        (0xe7f000f0, udf(0)),
+        (0xe7f001f0, udf(16)),
+        (0xe3a00f01, moved(Al, Mov, 0, immediate(1, 15))),
+        (0xe3a00100, moved(Al, Mov, 0, immediate(0, 1))),
+    ]
+}
 
 // Words outside the table.
 const REFUSED: [u32; 81] = [
-    // no condition
+    // No condition.
     0xf0010002, 0xfa000000, 0xf7f000f0, 0xffffffff,
-    // the flags written
+    // The flags written.
     0xe0110002, 0xe1b0000e, 0xe01e0d90, 0xe0931492,
-    // no flags written by a test
+    // A test that does not write the flags.
     0xe100000a, 0xe1200000, 0xe1400000, 0xe1600000, 0xe3200000,
-    // fields that should be zero
+    // A field that should be zero.
     0xe15b100a, 0xe1a1d00b, 0xe1fe1000, 0xe00e1d90, 0xe1de100f,
-    // R15 as an operand
+    // R15 as an operand.
     0xe08f0001, 0xe080f001, 0xe080000f, 0xe0800f11, 0xe30ff008, 0xe300f008, 0xe59f0000, 0xe590f000,
     0xe12fff1f, 0xe00f0190, 0xe0000f90, 0xe000019f,
-    // shifts by 32 and RRX
+    // Shifts by 32 and RRX.
     0xe0010022, 0xe0010042, 0xe0010062,
-    // operands of TST and TEQ
+    // TST and TEQ of a rotated immediate or a shifted register.
     0xe3100101, 0xe11e008e, 0xe11e002e, 0xe11e021e, 0xe3300f01, 0xe130008e,
-    // other multiplications
+    // MLA, UMAAL, UMLAL, SMLAL, MLS with S.
     0xe0200090, 0xe0400090, 0xe0a00090, 0xe0e00090, 0xe0700090,
-    // other divisions
+    // Neighbours of SDIV and UDIV.
     0xe711e312, 0xe711f332, 0xe700f110, 0xe731e312,
-    // CLZ and RBIT with other fixed bits
+    // Neighbours of CLZ and RBIT, and REV.
     0xe16e1f12, 0xe16f1e12, 0xe16f1f32, 0xe6fe1f32, 0xe6ff1e32, 0xe6bf1f32,
-    // extensions that rotate or add
+    // Extensions that rotate or add.
     0xe6af1472, 0xe6a11072, 0xe6bf1872, 0xe6e11072, 0xe6ff1c72,
-    // other accesses
-    0xe7900001, 0xe5b00000, 0xe5100004, 0xe4900004, 0xe19000b1, 0xe1d000d0, 0xe1d000f0, 0xe15000b0,
-    0xe1f000b0, 0xe1c000d0,
-    // other branches
+    // Accesses by a register, with a negative offset, with write-back, of signed numbers or of two words.
+    0xe7900001, 0xe5100004, 0xe15000b0, 0xe5b00000, 0xe4900004, 0xe1f000b0, 0xe19000b1, 0xe1d000d0,
+    0xe1d000f0, 0xe1c000d0,
+    // BLX, BXJ and neighbours of BX.
     0xe12fff3e, 0xe12fff2e, 0xe12eff1e, 0xe12fef1e,
-    // UDF of a condition, and its neighbours
+    // UDF under a condition, and its neighbours.
     0x17f000f0, 0xe7f000e0, 0xe7e000f0,
-    // others
+    // NOP, STMDB, SVC, MCR, MRS.
     0xe320f000, 0xe92d4010, 0xef000000, 0xee070f15, 0xe10f0000,
 ];
 
 // Instructions with a field that does not fit.
-const WITHOUT_WORD: [Inst; 24] = [
-    Inst::Data {
-        condition: Condition::Al,
-        op: DataOp::Add,
-        rd: 15,
-        rn: 0,
-        operand2: Operand2::ShiftImmediate {
-            rm: 2,
-            shift: Shift::Lsl,
-            imm5: 0,
-        },
-    },
-    Inst::Data {
-        condition: Condition::Al,
-        op: DataOp::Add,
-        rd: 0,
-        rn: 15,
-        operand2: Operand2::ShiftImmediate {
-            rm: 2,
-            shift: Shift::Lsl,
-            imm5: 0,
-        },
-    },
-    Inst::Data {
-        condition: Condition::Al,
-        op: DataOp::Add,
-        rd: 0,
-        rn: 0,
-        operand2: Operand2::ShiftImmediate {
-            rm: 15,
-            shift: Shift::Lsl,
-            imm5: 0,
-        },
-    },
-    Inst::Data {
-        condition: Condition::Al,
-        op: DataOp::Add,
-        rd: 0,
-        rn: 0,
-        operand2: Operand2::ShiftRegister {
-            rm: 1,
-            shift: Shift::Ror,
-            rs: 15,
-        },
-    },
-    Inst::Data {
-        condition: Condition::Al,
-        op: DataOp::Add,
-        rd: 0,
-        rn: 0,
-        operand2: Operand2::Immediate {
-            imm8: 0,
-            rotation: 16,
-        },
-    },
-    Inst::Data {
-        condition: Condition::Al,
-        op: DataOp::Add,
-        rd: 0,
-        rn: 0,
-        operand2: Operand2::ShiftImmediate {
-            rm: 2,
-            shift: Shift::Lsl,
-            imm5: 32,
-        },
-    },
-    Inst::Data {
-        condition: Condition::Al,
-        op: DataOp::Add,
-        rd: 0,
-        rn: 0,
-        operand2: Operand2::ShiftImmediate {
-            rm: 2,
-            shift: Shift::Lsr,
-            imm5: 0,
-        },
-    },
-    Inst::Data {
-        condition: Condition::Al,
-        op: DataOp::Add,
-        rd: 0,
-        rn: 0,
-        operand2: Operand2::ShiftImmediate {
-            rm: 2,
-            shift: Shift::Ror,
-            imm5: 0,
-        },
-    },
-    Inst::Data {
-        condition: Condition::Al,
-        op: DataOp::Add,
-        rd: 0,
-        rn: 0,
-        operand2: Operand2::ShiftImmediate {
-            rm: 2,
-            shift: Shift::Asr,
-            imm5: 32,
-        },
-    },
-    Inst::Move {
-        condition: Condition::Al,
-        op: MoveOp::Mvn,
-        rd: 16,
-        operand2: Operand2::ShiftImmediate {
-            rm: 2,
-            shift: Shift::Lsl,
-            imm5: 0,
-        },
-    },
-    Inst::Test {
-        condition: Condition::Al,
-        op: TestOp::Tst,
-        rn: 1,
-        operand2: Operand2::Immediate {
-            imm8: 1,
-            rotation: 1,
-        },
-    },
-    Inst::Test {
-        condition: Condition::Al,
-        op: TestOp::Tst,
-        rn: 1,
-        operand2: Operand2::ShiftImmediate {
-            rm: 2,
-            shift: Shift::Lsl,
-            imm5: 1,
-        },
-    },
-    Inst::Test {
-        condition: Condition::Al,
-        op: TestOp::Teq,
-        rn: 1,
-        operand2: Operand2::ShiftRegister {
-            rm: 2,
-            shift: Shift::Lsl,
-            rs: 3,
-        },
-    },
-    Inst::Test {
-        condition: Condition::Al,
-        op: TestOp::Cmn,
-        rn: 1,
-        operand2: Operand2::ShiftImmediate {
-            rm: 255,
-            shift: Shift::Lsl,
-            imm5: 1,
-        },
-    },
-    Inst::Movw {
-        condition: Condition::Al,
-        rd: 15,
-        imm16: 0,
-    },
-    Inst::Mul {
-        condition: Condition::Al,
-        rd: 0,
-        rn: 1,
-        rm: 15,
-    },
-    Inst::Mls {
-        condition: Condition::Al,
-        rd: 0,
-        rn: 1,
-        rm: 2,
-        ra: 15,
-    },
-    Inst::Umull {
-        condition: Condition::Al,
-        rd_lo: 15,
-        rd_hi: 1,
-        rn: 2,
-        rm: 3,
-    },
-    Inst::Clz {
-        condition: Condition::Al,
-        rd: 0,
-        rm: 15,
-    },
-    Inst::Ldr {
-        condition: Condition::Al,
-        rt: 0,
-        rn: 0,
-        imm12: 4096,
-    },
-    Inst::Strh {
-        condition: Condition::Al,
-        rt: 15,
-        rn: 0,
-        imm8: 0,
-    },
-    Inst::B {
-        condition: Condition::Al,
-        imm24: 8_388_608,
-    },
-    Inst::Bl {
-        condition: Condition::Al,
-        imm24: -8_388_609,
-    },
-    Inst::Bx {
-        condition: Condition::Al,
-        rm: 15,
-    },
-];
+fn without_word() -> [Inst; 24] {
+    [
+        data(Al, Add, 15, 0, shifted(2, Lsl, 0)),
+        data(Al, Add, 0, 15, shifted(2, Lsl, 0)),
+        data(Al, Add, 0, 0, shifted(15, Lsl, 0)),
+        data(Al, Add, 0, 0, shifted_by(1, Ror, 15)),
+        data(Al, Add, 0, 0, immediate(0, 16)),
+        data(Al, Add, 0, 0, shifted(2, Lsl, 32)),
+        data(Al, Add, 0, 0, shifted(2, Lsr, 0)),
+        data(Al, Add, 0, 0, shifted(2, Ror, 0)),
+        data(Al, Add, 0, 0, shifted(2, Asr, 32)),
+        moved(Al, Mvn, 16, shifted(2, Lsl, 0)),
+        test(Al, Tst, 1, immediate(1, 1)),
+        test(Al, Tst, 1, shifted(2, Lsl, 1)),
+        test(Al, Teq, 1, shifted_by(2, Lsl, 3)),
+        test(Al, Cmn, 1, shifted(255, Lsl, 1)),
+        movw(Al, 15, 0),
+        mul(Al, 0, 1, 15),
+        mls(Al, 0, 1, 2, 15),
+        umull(Al, 15, 1, 2, 3),
+        clz(Al, 0, 15),
+        ldr(Al, 0, 0, 4096),
+        strh(Al, 15, 0, 0),
+        b(Al, 8_388_608),
+        bl(Al, -8_388_609),
+        bx(Al, 15),
+    ]
+}
 
 #[test]
 fn words_and_instructions(rt: HostRuntime) {
-    for (word, inst) in TABLE {
+    for (word, inst) in table() {
         assert_eq!(rt; encode(inst), Some(word), "the word {word:#x}");
         assert_eq!(rt; decode(word), Some(inst), "the word {word:#x}");
     }
     for word in REFUSED {
         assert_eq!(rt; decode(word), None, "the word {word:#x}");
     }
-    for inst in WITHOUT_WORD {
+    for inst in without_word() {
         assert_eq!(rt; encode(inst), None, "{inst:?}");
     }
 }

@@ -1,3 +1,4 @@
+-- What is left of a signed number in w bits, and shifts right with the sign.
 use Rattle.std.proofs.Common.{◌≡◌, ℕ, ◌+◌, ◌-◌, ◌*◌, ◌/◌, ◌%◌, ◌^◌, ◌<◌, ◌≤◌, suc, ap, ◌∙◌, sym, subst, lit<, arith, refl, ℤ, pos, negsuc, to_z, of_z, FitsSigned, w64, ◌⊎◌, inl, inr, ◌*ℤ◌}
 use Rattle.std.specs.Int.{int_div_euclid, w128}
 use lib.Signed.{shr_z, mag_shr}
@@ -9,6 +10,7 @@ use Rattle.std.proofs.Math.Nat.{mod-lt}
 use Rattle.bk_num.specs.Word.{residue}
 use Rattle.bk_num.proofs.Powers.{pow_split}
 
+-- a multiple of m less a number, as a multiple of m and a rest
 folded : (t m h q r n : ℕ) → n ≡ q * m + r → r < m → t ≡ (h + suc q) * m → t - suc n ≡ h * m + (m - suc r)
 folded t m h q r n e l f = omega arith
 
@@ -24,10 +26,12 @@ complement w n h b =
     (p ∙ ap (λ k. k * 2 ^ w) (let g : 2 ^ (128 - w) ≡ 2 ^ (128 - w) - suc (n / 2 ^ w) + suc (n / 2 ^ w) = omega arith in g)) in
     ap (λ k. k % 2 ^ w) f ∙ mod_low _ w _ (omega arith)
 
+-- the low bits of the machine's 128 bits are the residue
 pub residue_is : (w : ℕ) (v : ℤ) → w ≤ 64 → FitsSigned w128 v → of_z w128 v % 2 ^ w ≡ residue w v
 residue_is w (pos n) h f = refl
 residue_is w (negsuc n) h f = complement w n h (omega (arith, f.sfits)) ∙ (omega arith)
 
+-- a shift by 63 and more leaves nothing of a number below 2 ^ 63
 gone : (a by count : ℕ) → a < 2 ^ 63 → (by ≡ 63) × (63 ≤ count) → a / 2 ^ by ≡ a / 2 ^ count
 gone a by count l e =
     let m : 2 ^ 63 ≤ 2 ^ count = pow_mono {i = 63} {j = count} e.1 in
@@ -42,16 +46,19 @@ shift_is (negsuc a) by count f (inl e) = ap (λ k. negsuc (a / 2 ^ k)) e
 shift_is (pos a) by count f (inr e) = ap pos (gone a by count (f.sfits) e)
 shift_is (negsuc a) by count f (inr e) = ap negsuc (gone a by count (f.sfits) e)
 
+-- a shift right keeps a number within 64 bits
 pub shifted : (v : ℤ) (m : ℕ) → FitsSigned w64 v → to_z w128 (of_z w128 (to_z w64 (of_z w64 (shr_z (to_z w64 (of_z w64 v)) m)))) ≡ shr_z v m
 shifted v m f =
     let g : FitsSigned w64 (shr_z v m) = record { sfits = omega (arith, mag_shr v m, f.sfits) } in
     let g' : FitsSigned w128 (shr_z v m) = record { sfits = omega (arith, mag_shr v m, f.sfits) } in
     rw (to_z-of_z w64 v f) (rw (to_z-of_z w64 (shr_z v m) g) (to_z-of_z w128 (shr_z v m) g'))
 
+-- a shift right rounds down
 shr_is : (v : ℤ) (m : ℕ) → shr_z v m ≡ int_div_euclid v (pos m)
 shr_is (pos a) m = refl
 shr_is (negsuc a) m = refl
 
+-- the size of a number of 64 bits
 abs_le : (a : ℤ) → FitsSigned w64 a → unsigned_abs a ≤ 2 ^ 63
 abs_le (pos n) f = omega (arith, f.sfits)
 abs_le (negsuc n) f = omega (arith, f.sfits)
