@@ -51,3 +51,6 @@ next_is text end count start h e f g =
   ∙ ap (λ t. Some (unindented (take end text), lines t)) (whole text start ∙ ap (λ k. drop k text) g ∙ drop_min (end + 1) text)
   ∙ ap (λ k. Some (unindented (take k text), lines (drop (k + 1) text))) e
   ∙ sym (next_lines text h)
+
+pub lines_some : (text : List ℕ) → 0 < length text → lines text ≡ [] → ⊥
+lines_some text h e = let n = next_lines text h in let m = ap first_line e in absurd (cc)

@@ -1,20 +1,22 @@
 -- Places of names in a list.
 use Rattle.std.proofs.Common.{◌≡◌, ◌≢◌, ℕ, ◌+◌, ◌<◌, ◌≤◌, take, ⊎_elim, List, [], ◌∷◌, ◌++◌, length, ap, ◌∙◌, sym, refl, arith, get_or, Bool, true, false, cond, Option, Some, None, map}
-use Rattle.std.specs.Prelude.{nat_lt, position, not}
+use Rattle.std.specs.Prelude.{nat_lt, position, not, ◌||◌, All}
 use Rattle.std.specs.List.{prefix_len, position_or_len, list_any}
 use Rattle.std.specs.Str.{bytes_eq}
 use Rattle.std.proofs.lemmas.Bool.Decides.{nat_tests}
 use Rattle.std.proofs.lemmas.List.Quantifiers.{position-Some}
 use Rattle.std.proofs.lemmas.List.Sums.{position_or_len_is, fails_before_first}
-use Rattle.std.proofs.lemmas.List.Folds.{list_any_at, Any-from_list_any}
+use Rattle.std.proofs.lemmas.List.Folds.{list_any_at, list_any_more, Any-from_list_any}
+use Rattle.std.proofs.lemmas.List.Elements.{All-nil, All-cons, All-head, All-tail}
+use Rattle.bk_top.specs.declared.narrow.package.Function.{Function}
 use Rattle.std.proofs.lemmas.Bool.{cases_lt}
 use Rattle.std.specs.Option.{is_some}
 use Rattle.std.proofs.lemmas.List.{length-map, get_or-map, map-append, take-map, get_or-take, get_or_default, length-take-le}
 use Rattle.std.proofs.lemmas.Slice.Eq.{bytes_eq-Decides}
 use Rattle.std.specs.String.{string_bytes}
 use Rattle.std.specs.declared.string.String.{String}
-use Rattle.bk_top.specs.Narrow.{Differ}
-use Rattle.bk_top.specs.Reading.{place_of, spellings}
+use Rattle.bk_top.specs.Narrow.{Narrow, Differ, IsWellFormed, view}
+use Rattle.bk_top.specs.Reading.{place_of, spellings, names_of}
 
 prefix_len-map : {X Y : Type 0} (f : X → Y) (p : Y → Bool) (xs : List X) → prefix_len p (map f xs) ≡ prefix_len (λ x. p (f x)) xs
 prefix_len-map f p [] = refl
@@ -117,3 +119,52 @@ seen names i l h d =
   let before : a.0 < i = omega (arith, a.2) in
   d a.0 i [] before l
     (sym (get_or-take i names a.0 [] before) ∙ get_or_default (take i names) a.0 [] a.1 a.2 ∙ a.3 ∙ sym ((bytes_eq-Decides (get_or names i []) a.1).0 a.4))
+
+same_test : (a b : Bool) → (a ≡ true → b ≡ true) → (b ≡ true → a ≡ true) → a ≡ b
+same_test true b f g = sym (f refl)
+same_test false true f g = g refl
+same_test false false f g = refl
+
+bytes_eq_sym : (a b : List ℕ) → bytes_eq a b ≡ bytes_eq b a
+bytes_eq_sym a b = same_test (bytes_eq a b) (bytes_eq b a) (λ e. (bytes_eq-Decides b a).1 (sym ((bytes_eq-Decides a b).0 e))) (λ e. (bytes_eq-Decides a b).1 (sym ((bytes_eq-Decides b a).0 e)))
+
+joined_test : (x b d : Bool) → b ≡ d → cond b true x ≡ (x || d)
+joined_test true true d h = refl
+joined_test true false d h = refl
+joined_test false true d h = h
+joined_test false false d h = h
+
+-- one name more in the set
+pub held_more : (names : List (List ℕ)) (i : ℕ) (key q : List ℕ) (now before : Bool) → i < length names → get_or names i [] ≡ key → before ≡ list_any (λ n. bytes_eq q n) (take i names) → now ≡ cond (bytes_eq key q) true before
+  → now ≡ list_any (λ n. bytes_eq q n) (take (i + 1) names)
+held_more names i key q now before l e h u =
+  u ∙ joined_test before (bytes_eq key q) (bytes_eq q (get_or names i [])) (bytes_eq_sym key q ∙ ap (bytes_eq q) (sym e)) ∙ ap (λ b. b || bytes_eq q (get_or names i [])) h ∙ sym (list_any_more (λ n. bytes_eq q n) names i [] l)
+
+pub name_of : (functions : List Function) (i : ℕ) (f : Function) → i < length functions → f ≡ get_or functions i f → get_or (names_of functions) i [] ≡ string_bytes f.name
+name_of functions i f l e = get_or-map (λ g. string_bytes g.name) functions i f [] l ∙ ap (λ g. string_bytes g.name) (sym e)
+
+pub names_length : (functions : List Function) → length (names_of functions) ≡ length functions
+names_length functions = length-map functions (λ g. string_bytes g.name)
+
+pub was_in : (b r : Bool) → r ≡ not b → r ≡ false → b ≡ true
+was_in true r h e = refl
+was_in false r h e = absurd (cc)
+
+pub was_new : (b r : Bool) → r ≡ not b → r ≡ true → b ≡ false
+was_new true r h e = absurd (cc)
+was_new false r h e = refl
+
+-- the names of functions, and of their views
+pub names_viewed : (functions : List Function) → names_of functions ≡ map (λ f. f.name) (map view functions)
+names_viewed [] = refl
+names_viewed (f ∷ functions) = ap (λ t. string_bytes f.name ∷ t) (names_viewed functions)
+
+pub parameters_viewed : (functions : List Function) → All (λ f. Differ (spellings f.parameters.items)) functions → All (λ f. Differ f.parameters) (map view functions)
+parameters_viewed [] h = All-nil (λ f. Differ f.parameters)
+parameters_viewed (f ∷ functions) h =
+  All-cons (λ g. Differ g.parameters) (view f) (map view functions) (All-head (λ g. Differ (spellings g.parameters.items)) f functions h) (parameters_viewed functions (All-tail (λ g. Differ (spellings g.parameters.items)) f functions h))
+
+pub viewed_parameters : (functions : List Function) → All IsWellFormed (map view functions) → All (λ f. Differ (spellings f.parameters.items)) functions
+viewed_parameters [] h = All-nil (λ f. Differ (spellings f.parameters.items))
+viewed_parameters (f ∷ functions) h =
+  All-cons (λ g. Differ (spellings g.parameters.items)) f functions (All-head IsWellFormed (view f) (map view functions) h).parameters_differ (viewed_parameters functions (All-tail IsWellFormed (view f) (map view functions) h))

@@ -18,11 +18,11 @@ use Rattle.bk_top.specs.Narrow.{Narrow, IsValue, AreValues, IsWellFormed, number
 use Rattle.bk_top.proofs.Digits.{digit_is}
 
 -- no LF
-abbrev lacks : List ℕ → Bool
+abbrev pub lacks : List ℕ → Bool
 lacks [] = true
 lacks (c ∷ cs) = cond (c == 10) false (lacks cs)
 
-record IsPlain (line : List ℕ) : Type 0 where
+pub record IsPlain (line : List ℕ) : Type 0 where
   pub one_line : lacks line ≡ true
   pub some_text : 0 < length line
   pub unspaced : spaces line ≡ 0
@@ -188,7 +188,7 @@ by_end text line more count rest (inr s) p g =
   ∙ ap (λ t. line ∷ t) (sym s.1)
 
 -- the lines that spell a text are those that it is cut into
-pub lines_are : (text : List ℕ) (ls : List (List ℕ)) → Spells text ls → AllByRecursion IsPlain ls → lines text ≡ ls
+lines_are : (text : List ℕ) (ls : List (List ℕ)) → Spells text ls → AllByRecursion IsPlain ls → lines text ≡ ls
 unfolding Spells lines cut
 lines_are text [] h g = ap (λ t. map unindented (cut t)) h
 lines_are text (l ∷ ls) h g = by_end text l ls h.0 h.1 h.2 g.0 (λ s. lines_are h.1 ls s g.1)
@@ -235,9 +235,9 @@ spells_joined : (text : List ℕ) (pieces : List (List ℕ)) → Joins text piec
 unfolding Spells
 spells_joined text [] h = h
 spells_joined text (piece ∷ more) h =
-  (spaces piece, (h.0, elim h.1 [
+  (spaces piece, h.0, elim h.1 [
     inl s ↦ inl (s.0 ∙ ap (λ t. t ++ (10 ∷ h.0)) (indented piece) ∙ append_assoc (replicate (spaces piece) 32) (unindented piece) (10 ∷ h.0), spells_joined h.0 more s.1)
-  | inr s ↦ inr (s.0 ∙ indented piece, ap (map unindented) s.1) ]))
+  | inr s ↦ inr (s.0 ∙ indented piece, ap (map unindented) s.1) ])
 
 pub spells_lines : (text : List ℕ) → Spells text (lines text)
 unfolding lines

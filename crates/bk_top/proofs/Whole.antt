@@ -5,10 +5,12 @@ use Rattle.std.proofs.lemmas.List.{append-nil, append_assoc}
 use Rattle.std.proofs.lemmas.List.Concat.{flat_map-cons}
 use Rattle.std.proofs.lemmas.List.Elements.{All-head, All-tail, All-nil, All-cons}
 use Rattle.bk_top.specs.Lines.{lines, Spells}
-use Rattle.bk_top.specs.Narrow.{Narrow, IsNarrow, IsWellFormed, Differ, lines_of}
-use Rattle.bk_top.specs.Reading.{function_at, Reads}
+use Rattle.bk_top.specs.Narrow.{Narrow, IsNarrow, IsWellFormed, Differ, lines_of, view}
+use Rattle.bk_top.specs.Reading.{function_at, Reads, spellings, names_of}
 use Rattle.bk_top.proofs.Words.{same_pair}
 use Rattle.bk_top.proofs.Functions.{function_takes, function_again, no_function, some_lines}
+use Rattle.bk_top.specs.declared.narrow.package.Function.{Function}
+use Rattle.bk_top.proofs.Places.{names_viewed, parameters_viewed, viewed_parameters}
 use Rattle.bk_top.proofs.Plain.{narrow_lines, spells_lines}
 
 abbrev Read : Type 0
@@ -83,3 +85,12 @@ reads_spelled (f ∷ fs) w =
 pub one_reading : (text : List ℕ) (fs gs : List Narrow) → IsNarrow text fs → IsNarrow text gs → gs ≡ fs
 one_reading text fs gs v w =
   reads_all (flat_map lines_of fs) fs gs (reads_spelled fs v.each) w.each (sym (narrow_lines text fs v.spelled v.each) ∙ narrow_lines text gs w.spelled w.each)
+
+pub read_found : (text : List ℕ) (functions : List Function) → Reads (lines text) (map view functions) [] → All (λ f. Differ (spellings f.parameters.items)) functions → Differ (names_of functions) → IsNarrow text (map view functions)
+read_found text functions h p n = narrow_found text (map view functions) h (parameters_viewed functions p) (subst Differ (names_viewed functions) n)
+
+pub same_parameters : (text : List ℕ) (functions : List Function) → Reads (lines text) (map view functions) [] → (All (λ f. Differ (spellings f.parameters.items)) functions → ⊥) → (gs : List Narrow) → IsNarrow text gs → ⊥
+same_parameters text functions h n gs w = n (viewed_parameters functions (subst (All IsWellFormed) (narrow_is text (map view functions) gs h w) w.each))
+
+pub same_names : (text : List ℕ) (functions : List Function) → Reads (lines text) (map view functions) [] → (Differ (names_of functions) → ⊥) → (gs : List Narrow) → IsNarrow text gs → ⊥
+same_names text functions h n gs w = n (subst Differ (ap (map (λ f. f.name)) (narrow_is text (map view functions) gs h w) ∙ sym (names_viewed functions)) w.names_differ)

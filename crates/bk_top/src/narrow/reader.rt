@@ -149,10 +149,10 @@ pub fn read_narrow(alloc: Global, text: &[u8]) -> Result<Option<Vec<Function>>, 
     let Some(functions) = read_functions(alloc, text)? else {
         return Ok(None);
     };
-    if !have_distinct_parameters(&functions) || !have_distinct_names(alloc, &functions)? {
+    if !have_distinct_parameters(&functions) {
         return Ok(None);
     }
-    Ok(Some(functions))
+    if have_distinct_names(alloc, &functions)? { Ok(Some(functions)) } else { Ok(None) }
 }
 
 /// A text spells at most one list of functions.
