@@ -1,9 +1,9 @@
 -- Decimal numbers at the front of a text.
-use Rattle.std.proofs.Common.{◌≡◌, ℕ, zero, suc, ◌+◌, ◌-◌, ◌*◌, ◌^◌, ◌<◌, ◌≤◌, List, [], ◌∷◌, ◌++◌, length, take, drop, ap, ◌∙◌, sym, refl, arith, rules, get_or, Bool, true, false, cond, Option, Some, None, ◌⊎◌, inl, inr, ⊎_elim}
+use Rattle.std.proofs.Common.{◌≡◌, ℕ, zero, suc, ◌+◌, ◌-◌, ◌*◌, ◌^◌, ◌<◌, ◌≤◌, List, [], ◌∷◌, ◌++◌, length, take, drop, ap, ◌∙◌, sym, refl, arith, rules, get_or, Bool, true, false, cond, Some, None, ◌⊎◌, inl, inr, ⊎_elim}
 use Rattle.std.specs.Prelude.{◌==◌, nat_lt, ◌&&◌, ◌||◌, slice_index}
 use Rattle.std.specs.Fmt.{decimal}
 use Rattle.std.specs.Char.{digit_value, is_ascii_digit}
-use Rattle.std.specs.List.{prefix_len, AllByRecursion}
+use Rattle.std.specs.List.{AllByRecursion}
 use Rattle.std.specs.Str.Parse.{AllDigits, digits_value}
 use Rattle.std.proofs.lemmas.Bool.Decides.{nat_tests}
 use Rattle.std.proofs.lemmas.Bool.{cases_lt}
@@ -26,9 +26,9 @@ digit_is c h = (grind (arith, nat_tests), grind (arith, nat_tests), grind (arith
 -- one digit more
 pub room : (v i d : ℕ) → v < 10 ^ i → i < 9 → d < 10 → (v * 10 + d < 10 ^ (i + 1)) × (v * 10 + d < 2 ^ 32)
 room v i d h l k =
-  let e : 10 ^ (i + 1) ≡ 10 ^ i * 10 = ap (λ n. 10 ^ n) (let q : i + 1 ≡ suc i = omega arith in q) ∙ pow-suc 10 i in
-  let m : 10 ^ i ≤ 10 ^ 8 = pow-le-pow_right (omega arith) {j = 8} (omega arith) in
-  (omega arith, omega arith)
+    let e : 10 ^ (i + 1) ≡ 10 ^ i * 10 = ap (λ n. 10 ^ n) (let q : i + 1 ≡ suc i = omega arith in q) ∙ pow-suc 10 i in
+    let m : 10 ^ i ≤ 10 ^ 8 = pow-le-pow_right (omega arith) {j = 8} (omega arith) in
+    (omega arith, omega arith)
 
 value_of_digit : (c : ℕ) → is_ascii_digit c ≡ true → digit_value c < 10
 value_of_digit c h = grind (arith, nat_tests)
@@ -67,30 +67,30 @@ guard_make n c h k o = elim o [ inl e ↦ grind (arith, nat_tests) | inr g ↦ g
 pub number_takes : (text r : List ℕ) (n : ℕ) → number_at text ≡ Some (n, r) → text ≡ decimal n ++ r
 unfolding number_at
 number_takes text r n h =
-  let len = digits_len text in
-  let ds = take len text in
-  let size : length ds ≡ len = length-prefix_len is_ascii_digit text in
-  let p = chosen (len == 0 || nat_lt 9 len || (slice_index text 0 == 48 && nat_lt 1 len)) (digits_value 10 ds, drop len text) (n, r) h in
-  let g = guard_false len (slice_index text 0) p.0 in
-  let q : (digits_value 10 ds ≡ n) × (drop len text ≡ r) = (ap (λ x. x.0) p.1, ap (λ x. x.1) p.1) in
-  let split : ds ++ drop len text ≡ text = take-append-drop len text in
-  let first : get_or ds 0 0 ≡ slice_index text 0 = sym (get_or_append_left ds (drop len text) 0 0 (omega arith)) ∙ ap (λ t. get_or t 0 0) split in
-  let small : digits_value 10 ds < 2 ^ 64 = omega (arith, digits_value_lt ds (omega arith) (front_digits text)) in
-  let d : decimal (digits_value 10 ds) ≡ ds = decimal-digits_value own ds (front_digits text) (omega arith) (λ e. size ∙ g.2 (sym first ∙ e)) small in
-  sym split ∙ ap (λ t. t ++ drop len text) (sym d) ∙ ap (λ m. decimal m ++ drop len text) q.0 ∙ ap (λ t. decimal n ++ t) q.1
+    let len = digits_len text in
+    let ds = take len text in
+    let size : length ds ≡ len = length-prefix_len is_ascii_digit text in
+    let p = chosen (len == 0 || nat_lt 9 len || (slice_index text 0 == 48 && nat_lt 1 len)) (digits_value 10 ds, drop len text) (n, r) h in
+    let g = guard_false len (slice_index text 0) p.0 in
+    let q : (digits_value 10 ds ≡ n) × (drop len text ≡ r) = (ap (λ x. x.0) p.1, ap (λ x. x.1) p.1) in
+    let split : ds ++ drop len text ≡ text = take-append-drop len text in
+    let first : get_or ds 0 0 ≡ slice_index text 0 = sym (get_or_append_left ds (drop len text) 0 0 (omega arith)) ∙ ap (λ t. get_or t 0 0) split in
+    let small : digits_value 10 ds < 2 ^ 64 = omega (arith, digits_value_lt ds (omega arith) (front_digits text)) in
+    let d : decimal (digits_value 10 ds) ≡ ds = decimal-digits_value own ds (front_digits text) (omega arith) (λ e. size ∙ g.2 (sym first ∙ e)) small in
+    sym split ∙ ap (λ t. t ++ drop len text) (sym d) ∙ ap (λ m. decimal m ++ drop len text) q.0 ∙ ap (λ t. decimal n ++ t) q.1
 
 pub number_again : (r : List ℕ) (n : ℕ) → n < 10 ^ 9 → digits_len r ≡ 0 → number_at (decimal n ++ r) ≡ Some (n, r)
 unfolding number_at
 number_again r n h e =
-  let ds = decimal n in
-  let m = decimal_is_IsNumeral n (omega arith) in
-  let f : digits_len (ds ++ r) ≡ length ds = front_append is_ascii_digit ds r (tests_of_digits ds m.0.1) e in
-  let len : length ds ≤ 9 = length-decimal-le 9 n (omega arith) h (omega arith) in
-  let c : slice_index (ds ++ r) 0 ≡ get_or ds 0 0 = get_or_append_left ds r 0 0 m.0.0 in
-  let o : (length ds ≡ 1) ⊎ (48 < slice_index (ds ++ r) 0) = ⊎_elim (λ z. inl (let q : n ≡ 0 = omega arith in ap (λ k. length (decimal k)) q ∙ ap length (decimal_digit 0 (omega arith)))) (λ z. inr (omega (arith, first_decimal n (omega arith) (omega arith), c))) (cases_lt n 1) in
-  let g = guard_make (length ds) (slice_index (ds ++ r) 0) m.0.0 len o in
-  ap (λ k. cond (k == 0 || nat_lt 9 k || (slice_index (ds ++ r) 0 == 48 && nat_lt 1 k)) None (Some (digits_value 10 (take k (ds ++ r)), drop k (ds ++ r)))) f
-  ∙ ap (λ b. cond b None (Some (digits_value 10 (take (length ds) (ds ++ r)), drop (length ds) (ds ++ r)))) g
-  ∙ ap (λ t. Some (digits_value 10 t, drop (length ds) (ds ++ r))) (take_at ds r (length ds) refl)
-  ∙ ap (λ v. Some (v, drop (length ds) (ds ++ r))) m.1
-  ∙ ap (λ t. Some (n, t)) (drop_at ds r (length ds) refl)
+    let ds = decimal n in
+    let m = decimal_is_IsNumeral n (omega arith) in
+    let f : digits_len (ds ++ r) ≡ length ds = front_append is_ascii_digit ds r (tests_of_digits ds m.0.1) e in
+    let len : length ds ≤ 9 = length-decimal-le 9 n (omega arith) h (omega arith) in
+    let c : slice_index (ds ++ r) 0 ≡ get_or ds 0 0 = get_or_append_left ds r 0 0 m.0.0 in
+    let o : (length ds ≡ 1) ⊎ (48 < slice_index (ds ++ r) 0) = ⊎_elim (λ z. inl (let q : n ≡ 0 = omega arith in ap (λ k. length (decimal k)) q ∙ ap length (decimal_digit 0 (omega arith)))) (λ z. inr (omega (arith, first_decimal n (omega arith) (omega arith), c))) (cases_lt n 1) in
+    let g = guard_make (length ds) (slice_index (ds ++ r) 0) m.0.0 len o in
+    ap (λ k. cond (k == 0 || nat_lt 9 k || (slice_index (ds ++ r) 0 == 48 && nat_lt 1 k)) None (Some (digits_value 10 (take k (ds ++ r)), drop k (ds ++ r)))) f
+    ∙ ap (λ b. cond b None (Some (digits_value 10 (take (length ds) (ds ++ r)), drop (length ds) (ds ++ r)))) g
+    ∙ ap (λ t. Some (digits_value 10 t, drop (length ds) (ds ++ r))) (take_at ds r (length ds) refl)
+    ∙ ap (λ v. Some (v, drop (length ds) (ds ++ r))) m.1
+    ∙ ap (λ t. Some (n, t)) (drop_at ds r (length ds) refl)

@@ -1,9 +1,9 @@
 -- Lines that a text shows as they are: not empty, with no space in front and no LF.
-use Rattle.std.proofs.Common.{◌≡◌, ◌≢◌, ℕ, zero, suc, ◌+◌, ◌^◌, ◌<◌, ◌≤◌, List, [], ◌∷◌, ◌++◌, length, take, drop, ap, ◌∙◌, sym, subst, refl, arith, get_or, Bool, true, false, cond, map, replicate, ◌⊎◌, inl, inr, ⊎_elim}
-use Rattle.std.specs.Prelude.{◌==◌, not, codes, All, flat_map, slice_index_or}
-use Rattle.std.specs.Char.{digit_value, is_ascii_lowercase}
+use Rattle.std.proofs.Common.{◌≡◌, ◌≢◌, ℕ, zero, suc, ◌+◌, ◌^◌, ◌<◌, ◌≤◌, List, [], ◌∷◌, ◌++◌, length, drop, ap, ◌∙◌, sym, subst, refl, arith, Bool, true, false, cond, map, replicate, ◌⊎◌, inl, inr}
+use Rattle.std.specs.Prelude.{◌==◌, codes, All, flat_map, slice_index_or}
+use Rattle.std.specs.Char.{is_ascii_lowercase}
 use Rattle.std.specs.Fmt.{decimal}
-use Rattle.std.specs.List.{prefix_len, position_or_len, onto_first, AllByRecursion}
+use Rattle.std.specs.List.{onto_first, AllByRecursion}
 use Rattle.std.specs.Str.Parse.{AllDigits}
 use Rattle.std.proofs.lemmas.Bool.Decides.{nat_tests}
 use Rattle.std.proofs.lemmas.Fmt.{decimal_is_IsNumeral}
@@ -66,7 +66,7 @@ lacks_parameters : (separator : List ℕ) (ps : List (List ℕ)) → lacks separ
 unfolding parameter_list
 lacks_parameters separator [] h g = refl
 lacks_parameters separator (p ∷ ps) h g =
-  lacks_both separator (p ++ (codes " int" ++ parameter_list (codes ", ") ps)) h
+    lacks_both separator (p ++ (codes " int" ++ parameter_list (codes ", ") ps)) h
     (lacks_both p (codes " int" ++ parameter_list (codes ", ") ps) (lacks_name p (All-head IsName p ps g)) (lacks_parameters (codes ", ") ps refl (All-tail IsName p ps g)))
 
 no_space : (c : ℕ) (n : ℕ) → c ≢ 32 → cond (c == 32) (1 + n) 0 ≡ 0
@@ -89,7 +89,7 @@ lacks_right : (parameters : List (List ℕ)) (place : ℕ) (v : Value) → All I
 unfolding right_side
 lacks_right parameters place (Argument a) n h l = lacks_both (slice_index_or parameters a []) (codes "}") (lacks_name (slice_index_or parameters a []) (n a [] h)) refl
 lacks_right parameters place (Sum i j) n h l =
-  lacks_numbered i (codes " " ++ numbered j) (omega (arith, h.0)) (subst (λ t. lacks t ≡ true) (append-nil (numbered j)) (lacks_numbered j [] (omega (arith, h.1)) refl))
+    lacks_numbered i (codes " " ++ numbered j) (omega (arith, h.0)) (subst (λ t. lacks t ≡ true) (append-nil (numbered j)) (lacks_numbered j [] (omega (arith, h.1)) refl))
 
 -- a line that begins with a number of a value
 numbered_is_plain : (place : ℕ) (r : List ℕ) → place < 100 → lacks r ≡ true → IsPlain (numbered place ++ r)
@@ -100,7 +100,7 @@ values_are_plain : (parameters : List (List ℕ)) (vs : List Value) (place : ℕ
 unfolding value_lines value_line
 values_are_plain parameters [] place n h l = tt
 values_are_plain parameters (v ∷ vs) place n h l =
-  (numbered_is_plain place (codes " = " ++ right_side parameters v) (omega arith) (lacks_right parameters place v n h.0 (omega arith)), values_are_plain parameters vs (place + 1) n h.1 (omega arith))
+    (numbered_is_plain place (codes " = " ++ right_side parameters v) (omega arith) (lacks_right parameters place v n h.0 (omega arith)), values_are_plain parameters vs (place + 1) n h.1 (omega arith))
 
 result_is_plain : (place result : ℕ) → place ≤ 98 → result < 98 → IsPlain (result_line place result)
 unfolding result_line
@@ -122,11 +122,18 @@ second_is_plain = record { one_line = refl; some_text = omega arith; unspaced = 
 
 function_is_plain : (f : Narrow) → IsWellFormed f → AllByRecursion IsPlain (lines_of f)
 unfolding lines_of
-function_is_plain f h =
-  (header_is_plain f.name f.parameters h.named h.parameters_named, (first_is_plain, (second_is_plain,
-    plain_both (value_lines f.parameters 0 f.values) (result_line (length f.values) f.result ∷ return_line (length f.values) ∷ [])
-      (values_are_plain f.parameters f.values 0 h.parameters_named h.values_follow (omega (arith, h.few_values)))
-      (result_is_plain (length f.values) f.result h.few_values (omega (arith, h.result_is_value, h.few_values)), (return_is_plain (length f.values) h.few_values, tt)))))
+function_is_plain f h = (
+  header_is_plain f.name f.parameters h.named h.parameters_named,
+  (
+    first_is_plain,
+    (
+      second_is_plain,
+      plain_both (value_lines f.parameters 0 f.values) (result_line (length f.values) f.result ∷ return_line (length f.values) ∷ [])
+          (values_are_plain f.parameters f.values 0 h.parameters_named h.values_follow (omega (arith, h.few_values)))
+          (result_is_plain (length f.values) f.result h.few_values (omega (arith, h.result_is_value, h.few_values)), (return_is_plain (length f.values) h.few_values, tt)),
+    ),
+  ),
+)
 
 functions_are_plain : (fs : List Narrow) → All IsWellFormed fs → AllByRecursion IsPlain (flat_map lines_of fs)
 functions_are_plain [] h = tt
@@ -176,16 +183,16 @@ longer (suc count) line h = omega arith
 
 by_end : (text line : List ℕ) (more : List (List ℕ)) (count : ℕ) (rest : List ℕ) → (((text ≡ replicate count 32 ++ (line ++ (10 ∷ rest))) × Spells rest more) ⊎ ((text ≡ replicate count 32 ++ line) × (more ≡ []))) → IsPlain line → (Spells rest more → map unindented (cut rest) ≡ more) → map unindented (cut text) ≡ line ∷ more
 by_end text line more count rest (inl s) p g =
-  let whole : text ≡ (replicate count 32 ++ line) ++ (10 ∷ rest) = s.0 ∙ sym (append_assoc (replicate count 32) line (10 ∷ rest)) in
-  ap (λ t. map unindented (cut t)) whole
-  ∙ ap (map unindented) (cut_ended (replicate count 32 ++ line) rest (lacks_spaces count line p.one_line))
-  ∙ ap (λ t. t ∷ map unindented (cut rest)) (unindent count line p.unspaced)
-  ∙ ap (λ t. line ∷ t) (g s.1)
+    let whole : text ≡ (replicate count 32 ++ line) ++ (10 ∷ rest) = s.0 ∙ sym (append_assoc (replicate count 32) line (10 ∷ rest)) in
+    ap (λ t. map unindented (cut t)) whole
+    ∙ ap (map unindented) (cut_ended (replicate count 32 ++ line) rest (lacks_spaces count line p.one_line))
+    ∙ ap (λ t. t ∷ map unindented (cut rest)) (unindent count line p.unspaced)
+    ∙ ap (λ t. line ∷ t) (g s.1)
 by_end text line more count rest (inr s) p g =
-  ap (λ t. map unindented (cut t)) s.0
-  ∙ ap (map unindented) (cut_line (replicate count 32 ++ line) (longer count line p.some_text) (lacks_spaces count line p.one_line))
-  ∙ ap (λ t. t ∷ []) (unindent count line p.unspaced)
-  ∙ ap (λ t. line ∷ t) (sym s.1)
+    ap (λ t. map unindented (cut t)) s.0
+    ∙ ap (map unindented) (cut_line (replicate count 32 ++ line) (longer count line p.some_text) (lacks_spaces count line p.one_line))
+    ∙ ap (λ t. t ∷ []) (unindent count line p.unspaced)
+    ∙ ap (λ t. line ∷ t) (sym s.1)
 
 -- the lines that spell a text are those that it is cut into
 lines_are : (text : List ℕ) (ls : List (List ℕ)) → Spells text ls → AllByRecursion IsPlain ls → lines text ≡ ls
@@ -222,8 +229,8 @@ is_space c h = grind (arith, nat_tests)
 
 space_step : (c : ℕ) (cs : List ℕ) (b : Bool) → (c == 32) ≡ b → cs ≡ replicate (spaces cs) 32 ++ drop (spaces cs) cs → c ∷ cs ≡ replicate (cond b (1 + spaces cs) 0) 32 ++ drop (cond b (1 + spaces cs) 0) (c ∷ cs)
 space_step c cs true e h =
-  let q : 1 + spaces cs ≡ suc (spaces cs) = omega arith in
-  rw q (ap (λ d. d ∷ cs) (is_space c e) ∙ ap (λ t. 32 ∷ t) h)
+    let q : 1 + spaces cs ≡ suc (spaces cs) = omega arith in
+    rw q (ap (λ d. d ∷ cs) (is_space c e) ∙ ap (λ t. 32 ∷ t) h)
 space_step c cs false e h = refl
 
 indented : (line : List ℕ) → line ≡ replicate (spaces line) 32 ++ unindented line
@@ -234,10 +241,14 @@ indented (c ∷ cs) = space_step c cs (c == 32) refl (indented cs)
 spells_joined : (text : List ℕ) (pieces : List (List ℕ)) → Joins text pieces → Spells text (map unindented pieces)
 unfolding Spells
 spells_joined text [] h = h
-spells_joined text (piece ∷ more) h =
-  (spaces piece, h.0, elim h.1 [
-    inl s ↦ inl (s.0 ∙ ap (λ t. t ++ (10 ∷ h.0)) (indented piece) ∙ append_assoc (replicate (spaces piece) 32) (unindented piece) (10 ∷ h.0), spells_joined h.0 more s.1)
-  | inr s ↦ inr (s.0 ∙ indented piece, ap (map unindented) s.1) ])
+spells_joined text (piece ∷ more) h = (
+  spaces piece,
+  h.0,
+  elim h.1 [
+    | inl s ↦ inl (s.0 ∙ ap (λ t. t ++ (10 ∷ h.0)) (indented piece) ∙ append_assoc (replicate (spaces piece) 32) (unindented piece) (10 ∷ h.0), spells_joined h.0 more s.1)
+    | inr s ↦ inr (s.0 ∙ indented piece, ap (map unindented) s.1)
+  ],
+)
 
 pub spells_lines : (text : List ℕ) → Spells text (lines text)
 unfolding lines

@@ -1,5 +1,5 @@
 -- The lines of a text.
-use Rattle.std.specs.Prelude.{◌≡◌, ℕ, ◌+◌, List, [], ◌∷◌, ◌++◌, length, drop, Option, Some, None, cond, ◌==◌, Bool, not, map, replicate, ◌⊎◌}
+use Rattle.std.specs.Prelude.{◌≡◌, ℕ, List, [], ◌∷◌, ◌++◌, drop, Option, Some, None, cond, ◌==◌, map, replicate, ◌⊎◌}
 use Rattle.std.specs.List.{prefix_len, position_or_len, onto_first}
 
 -- the text cut at each LF; behind the last one there is a line only where there is text
@@ -32,4 +32,4 @@ first_line (line ∷ rest) = Some (line, rest)
 unfoldable pub Spells : List ℕ → List (List ℕ) → Type 0
 Spells text [] = text ≡ []
 Spells text (line ∷ more) =
-  (count : ℕ) × (rest : List ℕ) × (((text ≡ replicate count 32 ++ (line ++ (10 ∷ rest))) × Spells rest more) ⊎ ((text ≡ replicate count 32 ++ line) × (more ≡ [])))
+    (count : ℕ) × (rest : List ℕ) × (((text ≡ replicate count 32 ++ (line ++ (10 ∷ rest))) × Spells rest more) ⊎ ((text ≡ replicate count 32 ++ line) × (more ≡ [])))

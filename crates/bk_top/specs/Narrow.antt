@@ -1,5 +1,5 @@
 -- The narrow package text: functions of one block that add int values.
-use Rattle.std.specs.Prelude.{◌≡◌, ◌≢◌, ℕ, ◌+◌, ◌<◌, ◌≤◌, List, [], ◌∷◌, ◌++◌, length, slice_index_or, codes, map, flat_map, All, AllPairs}
+use Rattle.std.specs.Prelude.{◌≢◌, ℕ, ◌+◌, ◌<◌, ◌≤◌, List, [], ◌∷◌, ◌++◌, length, slice_index_or, codes, map, flat_map, All, AllPairs}
 use Rattle.std.specs.Fmt.{decimal}
 use Rattle.std.specs.String.{string_bytes}
 use Rattle.bk_top.specs.declared.narrow.package.Function.{Function}
@@ -51,13 +51,13 @@ return_line place = codes "Ret " ++ numbered place
 -- the lines that spell a function
 unfoldable pub lines_of : Narrow → List (List ℕ)
 lines_of f =
-  header_line f.name f.parameters
-  ∷ codes "b1:"
-  ∷ codes "v1 = InitMem <mem>"
-  ∷ (value_lines f.parameters 0 f.values
-  ++ (result_line (length f.values) f.result
-  ∷ return_line (length f.values)
-  ∷ []))
+    header_line f.name f.parameters
+    ∷ codes "b1:"
+    ∷ codes "v1 = InitMem <mem>"
+    ∷ (value_lines f.parameters 0 f.values
+    ++ (result_line (length f.values) f.result
+    ∷ return_line (length f.values)
+    ∷ []))
 
 -- a value names a parameter, or values before it
 abbrev pub IsValue : ℕ → ℕ → Value → Type 0

@@ -1,5 +1,5 @@
 -- How the lines of a function are read.
-use Rattle.std.specs.Prelude.{◌≡◌, ℕ, zero, suc, ◌+◌, ◌-◌, List, [], ◌∷◌, ◌++◌, length, Option, Some, None, cond, if◌then◌else◌, ◌==◌, nat_lt, nat_le, ◌||◌, Bool, codes, map, position}
+use Rattle.std.specs.Prelude.{◌≡◌, ℕ, zero, suc, ◌+◌, ◌-◌, List, [], ◌∷◌, ◌++◌, length, Option, Some, None, cond, if◌then◌else◌, ◌==◌, nat_lt, nat_le, ◌||◌, codes, map, position}
 use Rattle.std.specs.Option.{option_map}
 use Rattle.std.specs.Str.{bytes_eq}
 use Rattle.std.specs.String.{string_bytes}
@@ -85,7 +85,7 @@ parameter_at separator text = do
 unfoldable pub parameters_at : ℕ → List ℕ → List ℕ → Option (List (List ℕ))
 parameters_at zero separator text = None
 parameters_at (suc most) separator text =
-  cond (bytes_eq text (codes ") int"))
+    cond (bytes_eq text (codes ") int"))
     (Some [])
     (parameter_at separator text >>= λ p. option_map (λ ps. p.0 ∷ ps) (parameters_at most (codes ", ") p.1))
 

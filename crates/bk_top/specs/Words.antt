@@ -1,6 +1,6 @@
 -- Fixed words and names at the front of a text.
-use Rattle.std.specs.Prelude.{◌≡◌, ℕ, List, [], ◌∷◌, take, drop, Option, Some, None, cond, ◌==◌, Bool, true, not, ◌||◌, IsTrue}
-use Rattle.std.specs.List.{prefix_len, position_or_len, AllByRecursion}
+use Rattle.std.specs.Prelude.{ℕ, List, [], ◌∷◌, take, drop, Option, Some, None, cond, ◌==◌, Bool, ◌||◌, IsTrue}
+use Rattle.std.specs.List.{prefix_len, AllByRecursion}
 use Rattle.std.specs.Char.{is_ascii_lowercase, is_ascii_digit}
 
 infixl 10 ◌>>=◌

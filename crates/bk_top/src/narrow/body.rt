@@ -16,7 +16,11 @@ fn body(line: &[u8], place: u8) -> Option<&[u8]>
 {
     let rest = after(line, b"v")?;
     let (k, rest) = number(rest)?;
-    if k == place as u32 + 2 { after(rest, b" = ") } else { None }
+    if k == place as u32 + 2 {
+        after(rest, b" = ")
+    } else {
+        None
+    }
 }
 
 /// The place of the value whose number stands at the front, where it is before `place`.
@@ -25,7 +29,11 @@ fn earlier(text: &[u8], place: u8) -> Option<(u8, &[u8])>
     ensures { option_map (λ x. (x.0, x.1.now)) result ≡ earlier_at place text.now }
 {
     let (k, rest) = number(text)?;
-    if k < 2 || k >= place as u32 + 2 { None } else { Some(((k - 2) as u8, rest)) }
+    if k < 2 || k >= place as u32 + 2 {
+        None
+    } else {
+        Some(((k - 2) as u8, rest))
+    }
 }
 
 /// The first place of a name.
@@ -64,7 +72,11 @@ fn sum(text: &[u8], place: u8) -> Option<Value>
     let (left, rest) = earlier(text, place)?;
     let rest = after(rest, b" v")?;
     let (right, rest) = earlier(rest, place)?;
-    if rest.is_empty() { Some(Value::Sum(left, right)) } else { None }
+    if rest.is_empty() {
+        Some(Value::Sum(left, right))
+    } else {
+        None
+    }
 }
 
 /// The right side of a value's line.
@@ -116,5 +128,9 @@ pub fn read_return(line: &[u8], place: u8) -> Option<u32>
 {
     let rest = after(line, b"Ret v")?;
     let (k, rest) = number(rest)?;
-    if k == place as u32 + 2 && rest.is_empty() { Some(k) } else { None }
+    if k == place as u32 + 2 && rest.is_empty() {
+        Some(k)
+    } else {
+        None
+    }
 }

@@ -6,10 +6,9 @@ ghost use Rattle.std.specs.String.{string_bytes};
 ghost use Rattle.bk_top.specs.Words.{IsName};
 ghost use Rattle.bk_top.specs.Reading.{spellings, parameter_at, parameters_at, header_at};
 
-use std::alloc::{AllocError, Global};
-
 use crate::text::name::{copy_name, name};
 use crate::text::word::after;
+use std::alloc::{AllocError, Global};
 
 /// A function's name and those of its parameters.
 #[derive(Drop)]

@@ -2,8 +2,8 @@
 
 pub mod body;
 pub mod header;
-pub mod reader;
 pub mod package;
+pub mod reader;
 
 pub use package::{Function, Value};
 pub use reader::read_narrow;

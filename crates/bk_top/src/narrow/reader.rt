@@ -7,13 +7,12 @@ ghost use Rattle.bk_top.specs.Lines.{lines};
 ghost use Rattle.bk_top.specs.Narrow.{Narrow, IsNarrow, Differ, view};
 ghost use Rattle.bk_top.specs.Reading.{spellings, behind, values_at, ending_at, opening_at, function_at, names_of, Reads};
 
-use std::alloc::{AllocError, Global};
-use std::collections::HashSet;
-
 use crate::narrow::body::{place_of, read_result, read_return, read_value};
 use crate::narrow::header::{Header, read_header};
 use crate::narrow::package::{Function, Value};
 use crate::text::line::next_line;
+use std::alloc::{AllocError, Global};
+use std::collections::HashSet;
 
 /// The text behind its first line, where that line is `line`.
 fn behind<'a>(text: &'a [u8], line: &[u8]) -> Option<&'a [u8]>
@@ -24,7 +23,11 @@ fn behind<'a>(text: &'a [u8], line: &[u8]) -> Option<&'a [u8]>
 }
 
 /// The values at the front of the text, at most 98, and the text behind their lines.
-fn read_values<'a>(alloc: Global, text: &'a [u8], parameters: &[String]) -> Result<(Vec<Value>, &'a [u8]), AllocError>
+fn read_values<'a>(
+    alloc: Global,
+    text: &'a [u8],
+    parameters: &[String],
+) -> Result<(Vec<Value>, &'a [u8]), AllocError>
     requires { length parameters.now ≤ 63 }
     ensures value { IfOk result (λ x. values_at (spellings parameters.now) 0 (lines text.now) ≡ (x.0.items, lines x.1.now)) }
     ensures few { IfOk result (λ x. vec_len x.0 ≤ 98) }
@@ -89,7 +92,15 @@ fn read_function(alloc: Global, text: &[u8]) -> Result<Option<(Function, &[u8])>
     let Some((result_place, rest)) = read_ending(rest, values.len() as u8) else {
         return Ok(None);
     };
-    Ok(Some((Function { name, parameters, values, result: result_place }, rest)))
+    Ok(Some((
+        Function {
+            name,
+            parameters,
+            values,
+            result: result_place,
+        },
+        rest,
+    )))
 }
 
 /// Whether no two names are the same.
@@ -108,7 +119,9 @@ fn are_distinct(names: &[String]) -> bool
 fn have_distinct_parameters(functions: &[Function]) -> bool
     ensures { IsTrue result ↔ All (λ f. Differ (spellings f.parameters.items)) functions.now }
 {
-    functions.iter().all(|function| are_distinct(&function.parameters))
+    functions
+        .iter()
+        .all(|function| are_distinct(&function.parameters))
 }
 
 /// Whether no two functions have one name.
@@ -152,11 +165,14 @@ pub fn read_narrow(alloc: Global, text: &[u8]) -> Result<Option<Vec<Function>>, 
     if !have_distinct_parameters(&functions) {
         return Ok(None);
     }
-    if have_distinct_names(alloc, &functions)? { Ok(Some(functions)) } else { Ok(None) }
+    if have_distinct_names(alloc, &functions)? {
+        Ok(Some(functions))
+    } else {
+        Ok(None)
+    }
 }
 
 /// A text spells at most one list of functions.
 pub fn one_reading()
     ensures { (text : List ℕ) (functions others : List Narrow) → IsNarrow text functions → IsNarrow text others → others ≡ functions }
-{
-}
+{}

@@ -8,14 +8,18 @@ fn line_len(text: &[u8]) -> usize
     ensures value { result ≡ line_len text.now }
     ensures within { result ≤ length text.now }
 {
-    text.iter().position(|byte| *byte == b'\n').unwrap_or(text.len())
+    text.iter()
+        .position(|byte| *byte == b'\n')
+        .unwrap_or(text.len())
 }
 
 fn spaces(line: &[u8]) -> usize
     ensures value { result ≡ spaces line.now }
     ensures within { result ≤ length line.now }
 {
-    line.iter().position(|byte| *byte != b' ').unwrap_or(line.len())
+    line.iter()
+        .position(|byte| *byte != b' ')
+        .unwrap_or(line.len())
 }
 
 /// The first line without its leading spaces, and the text behind its LF. The last line may lack its LF.

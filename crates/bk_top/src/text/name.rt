@@ -17,7 +17,9 @@ fn name_len(text: &[u8]) -> usize
     ensures value { result ≡ name_len text.now }
     ensures within { result ≤ length text.now }
 {
-    text.iter().position(|byte| !is_name_byte(*byte)).unwrap_or(text.len())
+    text.iter()
+        .position(|byte| !is_name_byte(*byte))
+        .unwrap_or(text.len())
 }
 
 #[tactic(auto, unfolding(crate::specs::Words::name_at))]

@@ -6,7 +6,7 @@ use Rattle.bk_top.proofs.narrow.header.parameters.Given as goal
 abbrev pub invariant-loop-rest : goal.invariant-loop-rest
 invariant-loop-rest l = record {
   same : option_map (λ ps. spellings l.parameters.items ++ ps) (parameters_at (64 - vec_len l.parameters) l.separator l.rest) ≡ parameters_at 64 [] l.text;
-  few : vec_len l.parameters ≤ 64
+  few : vec_len l.parameters ≤ 64;
 }
 
 abbrev pub decreases-loop-rest : goal.decreases-loop-rest

@@ -1,4 +1,4 @@
-use Rattle.std.proofs.Common.{◌≡◌, sym, ◌∙◌, ap, cond, Some, None}
+use Rattle.std.proofs.Common.{sym, ◌∙◌, ap, cond, Some, None}
 use Rattle.bk_top.specs.Lines.{lines}
 use Rattle.bk_top.proofs.Functions.{behind_none, behind_first}
 use Rattle.bk_top.proofs.narrow.reader.behind.Goals as goal

@@ -8,5 +8,5 @@ use Rattle.bk_top.proofs.narrow.reader.have_distinct_names.Given as goal
 abbrev pub invariant-loop-function : goal.invariant-loop-function
 invariant-loop-function l = record {
   held : (q : List ℕ) → contains_text l.names q ≡ list_any (λ n. bytes_eq q n) (take l.function-index (names_of l.functions));
-  differ : (j k : ℕ) → j < k → k < l.function-index → get_or (names_of l.functions) j [] ≢ get_or (names_of l.functions) k []
+  differ : (j k : ℕ) → j < k → k < l.function-index → get_or (names_of l.functions) j [] ≢ get_or (names_of l.functions) k [];
 }

@@ -6,5 +6,5 @@ use Rattle.bk_top.proofs.narrow.reader.read_values.Given as goal
 abbrev pub invariant-loop-place : goal.invariant-loop-place
 invariant-loop-place l = record {
   same : values_at (spellings l.parameters) 0 (lines l.text) ≡ joined l.values.items (values_at (spellings l.parameters) l.place (lines l.rest));
-  size : vec_len l.values ≡ l.place
+  size : vec_len l.values ≡ l.place;
 }

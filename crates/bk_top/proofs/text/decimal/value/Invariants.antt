@@ -5,5 +5,5 @@ use Rattle.bk_top.proofs.text.decimal.value.Given as goal
 abbrev pub invariant-loop-digit : goal.invariant-loop-digit
 invariant-loop-digit l = record {
   value : l.value ≡ digits_value 10 (take l.digit-index l.digits);
-  small : l.value < 10 ^ l.digit-index
+  small : l.value < 10 ^ l.digit-index;
 }

@@ -9,5 +9,5 @@ returns-then-is_empty c = let h : length c.args.text.now ≡ 0 = grind (arith, n
 
 pub returns : goal.returns
 returns c =
-  let h : 0 < length c.args.text.now = grind (arith, nat_tests) in
-  next_is c.args.text.now c.line_len-end.result c.spaces.result c.min.result h c.line_len-end.ensures.value c.spaces.ensures.value c.min.ensures
+    let h : 0 < length c.args.text.now = grind (arith, nat_tests) in
+    next_is c.args.text.now c.line_len-end.result c.spaces.result c.min.result h c.line_len-end.ensures.value c.spaces.ensures.value c.min.ensures
