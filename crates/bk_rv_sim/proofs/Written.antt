@@ -1,7 +1,7 @@
 -- The low bytes of a number.
-use Rattle.std.proofs.Common.{◌≡◌, ℕ, zero, suc, ◌+◌, ◌-◌, ◌*◌, ◌/◌, ◌%◌, ◌^◌, ◌<◌, ◌≤◌, List, [], ◌∷◌, ◌++◌, take, drop, ap, ◌∙◌, sym, subst, refl, arith, length, length-drop, Option, Some, None, Bool, true, false, cond}
+use Rattle.std.proofs.Common.{◌≡◌, ℕ, zero, suc, ◌+◌, ◌-◌, ◌*◌, ◌/◌, ◌%◌, ◌^◌, ◌<◌, ◌≤◌, List, ◌∷◌, ◌++◌, take, drop, ap, ◌∙◌, sym, subst, refl, arith, length, length-drop, Some, None, Bool, true, false, cond}
 use Rattle.std.proofs.lemmas.List.{drop-drop, length-take-le}
-use Rattle.std.specs.Int.{to_le_bytes, w64, bytes_low_first}
+use Rattle.std.specs.Int.{to_le_bytes, w64}
 use Rattle.bk_rv_isa.specs.Bytes.{bytes, is_within, store_in, written}
 use borrow.Rule.Slice.PartMut.{put_mid}
 

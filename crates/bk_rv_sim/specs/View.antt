@@ -1,5 +1,5 @@
 -- The simulator's machine as the definitions see it.
-use Rattle.std.specs.Prelude.{◌≡◌, ℕ, Option, Some, None}
+use Rattle.std.specs.Prelude.{Some, None}
 use Rattle.bk_rv_isa.specs.declared.stop.Stop.{Stop}
 use Rattle.bk_rv_isa.specs.declared.stop.Stop.TheVariants.{Going}
 use Rattle.bk_rv_isa.specs.Machine as M

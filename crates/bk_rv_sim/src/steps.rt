@@ -13,8 +13,11 @@ use bk_num::residue;
 use bk_rv_isa::{Inst, LoadOp, Stop, StoreOp, decode};
 
 const TEXT_BASE: u64 = 65_536;
+
 const POOL_BASE: u64 = 33_554_432;
+
 const DATA_BASE: u64 = 67_108_864;
+
 const HALT: u64 = 61_440;
 
 fn reg(regs: &[u64], k: u8) -> u64

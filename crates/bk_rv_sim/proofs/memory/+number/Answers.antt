@@ -1,4 +1,4 @@
-use Rattle.std.proofs.Common.{◌≡◌, ◌<◌, arith}
+use Rattle.std.proofs.Common.{arith}
 use Rattle.bk_rv_sim.proofs.Written.{rest_spells}
 use Rattle.bk_rv_sim.proofs.memory.+number.Goals as goal
 

@@ -1,4 +1,4 @@
-use Rattle.std.proofs.Common.{◌≡◌, ◌∙◌, ℕ, ap, sym, arith, take}
+use Rattle.std.proofs.Common.{◌∙◌, ap, sym, take}
 use Rattle.bk_rv_sim.proofs.Written.{low, stored}
 use Rattle.bk_rv_sim.proofs.memory.store_in.Goals as goal
 

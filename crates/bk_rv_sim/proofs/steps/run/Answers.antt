@@ -1,4 +1,4 @@
-use Rattle.std.proofs.Common.{◌≡◌, ◌-◌, ◌+◌, ◌∙◌, sym, ap, arith}
+use Rattle.std.proofs.Common.{◌-◌, ◌+◌, ◌∙◌, sym, ap, arith}
 use Rattle.bk_rv_isa.specs.Machine.{run, go_on}
 use Rattle.bk_rv_sim.specs.View.{view, ended}
 use Rattle.bk_rv_sim.proofs.Runs.{run_more}
