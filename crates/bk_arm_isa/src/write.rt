@@ -95,14 +95,8 @@ pub(crate) fn data(
             word(condition, base + field, rn, rd, 0, rm)
         }
         Operand2::ShiftRegister { rm, shift, rs } => {
-            word(
-                condition,
-                base + (1 << 4) + (shift_number(shift) << 5),
-                rn,
-                rd,
-                rs,
-                rm,
-            )
+            let field = (1 << 4) + (shift_number(shift) << 5);
+            word(condition, base + field, rn, rd, rs, rm)
         }
     }
 }
@@ -142,14 +136,8 @@ pub(crate) fn wide(condition: Condition, base: u32, rd: u8, imm16: u16) -> Optio
     ensures { result ≡ wide condition base rd imm16 }
 {
     let imm16 = imm16 as u32;
-    word(
-        condition,
-        base + ((imm16 >> 12) << 16) + imm16 % 4096,
-        0,
-        rd,
-        0,
-        0,
-    )
+    let field = ((imm16 >> 12) << 16) + imm16 % 4096;
+    word(condition, base + field, 0, rd, 0, 0)
 }
 
 // LDR, STR, LDRB and STRB.
@@ -169,14 +157,8 @@ pub(crate) fn half(condition: Condition, base: u32, rt: u8, rn: u8, imm8: u8) ->
     ensures { result ≡ half condition base rt rn imm8 }
 {
     let imm8 = imm8 as u32;
-    word(
-        condition,
-        base + ((imm8 >> 4) << 8) + imm8 % 16,
-        rn,
-        rt,
-        0,
-        0,
-    )
+    let field = ((imm8 >> 4) << 8) + imm8 % 16;
+    word(condition, base + field, rn, rt, 0, 0)
 }
 
 // B and BL.
@@ -187,14 +169,8 @@ pub(crate) fn branch(condition: Condition, base: u32, imm24: i32) -> Option<u32>
     if imm24 < -0x80_0000 || imm24 >= 0x80_0000 {
         return None;
     }
-    word(
-        condition,
-        base + residue(24, imm24 as i128) as u32,
-        0,
-        0,
-        0,
-        0,
-    )
+    let field = residue(24, imm24 as i128) as u32;
+    word(condition, base + field, 0, 0, 0, 0)
 }
 
 // UDF, under condition 14 alone.
