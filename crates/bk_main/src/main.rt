@@ -51,7 +51,15 @@ fn run(rt: &HostRuntime) -> u8 {
     let mut input = StdSource::new(rt.stdin());
     let mut out = StdSink::new(rt.stdout());
     let mut err = StdSink::new(rt.stderr());
-    backend(rt.alloc(), &words, &mut input, &mut rules, &mut out, &mut err, &Open)
+    backend(
+        rt.alloc(),
+        &words,
+        &mut input,
+        &mut rules,
+        &mut out,
+        &mut err,
+        &Open,
+    )
 }
 
 fn main(rt: HostRuntime) -> ExitCode {

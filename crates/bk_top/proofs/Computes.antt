@@ -1,25 +1,23 @@
 -- The code of each function computes its meaning where it stands.
-use Rattle.std.proofs.Common.{◌≡◌, ℕ, zero, suc, ◌+◌, ◌-◌, ◌*◌, ◌/◌, ◌%◌, ◌^◌, ◌<◌, ◌≤◌, List, [], ◌∷◌, ◌++◌, length, map, drop, All, ap, ◌∙◌, sym, subst, refl, arith, Option, Some, None, Bool, true, ℤ, pos, neg_ℤ, length-append, append_assoc}
+use Rattle.std.proofs.Common.{◌≡◌, ℕ, zero, suc, ◌+◌, ◌-◌, ◌*◌, ◌^◌, ◌<◌, ◌≤◌, List, [], ◌∷◌, ◌++◌, length, map, All, ap, ◌∙◌, sym, subst, refl, arith, Some, true, pos, neg_ℤ, length-append, append_assoc}
 use Rattle.std.specs.Prelude.{slice_index, nat_lt}
 use Rattle.std.proofs.lemmas.Bool.Decides.{nat_tests}
 use Rattle.std.proofs.lemmas.List.{drop_at}
 use Rattle.std.proofs.lemmas.List.Elements.{All-head, All-tail}
 use Rattle.bk_rv_isa.specs.declared.inst.Inst.{Inst}
-use Rattle.bk_rv_isa.specs.declared.stop.Stop.TheVariants.{Returned, Trapped}
-use Rattle.bk_rv_isa.specs.Encoding.{fits, word, decoding}
+use Rattle.bk_rv_isa.specs.Encoding.{word}
 use Rattle.bk_num.specs.Word.{fits_signed}
 use Rattle.bk_rv_isa.specs.Bytes.{bytes}
 use Rattle.bk_rv_isa.proofs.Memory.{length-bytes}
-use Rattle.bk_rv_isa.specs.Machine.{Machine, HasAt, Begins, run, load, start, stack_top}
+use Rattle.bk_rv_isa.specs.Machine.{HasAt, Begins, load, stack_top}
 use Rattle.bk_rv_isa.proofs.Steps.{has_front, has_back, has_words}
 use Rattle.bk_rv_isa.proofs.Words.{decode_word}
 use Rattle.bk_top.specs.declared.narrow.package.Value.{Value}
 use Rattle.bk_top.specs.declared.narrow.package.Value.TheVariants.{Argument, Sum}
 use Rattle.bk_top.specs.Narrow.{Narrow, IsValue, AreValues, IsWellFormed}
-use Rattle.bk_top.specs.Meaning.{value_of, values_from, meaning}
-use Rattle.bk_top.specs.Code.{frame, entry, unit, units, ending, code_of, code, words, image, little_endian, FitAll}
+use Rattle.bk_top.specs.Meaning.{value_of, values_from}
+use Rattle.bk_top.specs.Code.{frame, entry, unit, units, ending, code, words, image, little_endian, FitAll}
 use Rattle.bk_top.specs.Runs.{AreWords, Computes, AllCompute}
-use Rattle.bk_top.proofs.Machine.{st}
 use Rattle.bk_top.proofs.Units.{units_run}
 use Rattle.bk_top.proofs.Execution.{enters, refuses, ends}
 
@@ -123,9 +121,10 @@ all_compute pre (f ∷ fs) l h =
     let next : length (pre ++ w) ≡ length pre + length w = length-append pre w in
     let count : length w ≡ length (code f) = length-map (code f) in
     let rest = all_compute (pre ++ w) fs (omega arith) (All-tail IsWellFormed f fs h) in
-    let p : 65536 + 4 * length (pre ++ w) ≡ 65536 + 4 * length pre + 4 * length (code f) = omega arith in
-    (computes pre (words fs) f (omega arith) (All-head IsWellFormed f fs h),
-    subst (λ t. AllCompute t (65536 + 4 * length pre + 4 * length (code f)) fs) (append_assoc pre w (words fs)) (subst (λ q. AllCompute ((pre ++ w) ++ words fs) q fs) p rest))
+    let p : 65536 + 4 * length (pre ++ w) ≡ 65536 + 4 * length pre + 4 * length (code f) = omega arith in (
+      computes pre (words fs) f (omega arith) (All-head IsWellFormed f fs h),
+      subst (λ t. AllCompute t (65536 + 4 * length pre + 4 * length (code f)) fs) (append_assoc pre w (words fs)) (subst (λ q. AllCompute ((pre ++ w) ++ words fs) q fs) p rest),
+    )
 
 length-little_endian : (ws : List ℕ) → length (little_endian ws) ≡ 4 * length ws
 unfolding little_endian

@@ -1,11 +1,11 @@
 -- One more function of an image, and one more instruction of a function.
-use Rattle.std.proofs.Common.{◌≡◌, ℕ, suc, ◌+◌, ◌<◌, List, [], ◌∷◌, ◌++◌, length, map, drop, get_or, All, ap, ◌∙◌, sym, subst, refl, arith, append_assoc, add-one, drop-cons, true}
+use Rattle.std.proofs.Common.{◌≡◌, ℕ, suc, ◌+◌, ◌<◌, List, ◌∷◌, ◌++◌, length, map, drop, get_or, All, ap, ◌∙◌, sym, subst, append_assoc, add-one, drop-cons, true}
 use Rattle.std.proofs.lemmas.List.{get_or-map, length-map}
 use Rattle.bk_rv_isa.specs.declared.inst.Inst.{Inst}
 use Rattle.bk_rv_isa.specs.Encoding.{fits, word}
 use Rattle.bk_rv_isa.specs.Bytes.{bytes}
 use Rattle.bk_top.specs.declared.narrow.package.Function.{Function}
-use Rattle.bk_top.specs.Narrow.{Narrow, view, IsWellFormed}
+use Rattle.bk_top.specs.Narrow.{view, IsWellFormed}
 use Rattle.bk_top.specs.Code.{code, words, image, little_endian, FitAll}
 use Rattle.bk_top.proofs.Bytes.{little_endian_append}
 
@@ -19,7 +19,7 @@ well_formed_at fs i f h lt is =
     subst IsWellFormed (get_or-map view fs i f (view f) lt ∙ ap view (sym is)) (h i (view f) l)
 
 pub image_more : (fs : List Function) (i : ℕ) (f : Function) (before after whole : List ℕ) → i < length fs → f ≡ get_or fs i f
-  → after ≡ before ++ little_endian (map word (code (view f))) → before ++ image (map view (drop i fs)) ≡ whole → after ++ image (map view (drop (i + 1) fs)) ≡ whole
+    → after ≡ before ++ little_endian (map word (code (view f))) → before ++ image (map view (drop i fs)) ≡ whole → after ++ image (map view (drop (i + 1) fs)) ≡ whole
 image_more fs i f before after whole lt is wrote so_far =
     let w = map word (code (view f)) in
     let rest = words (map view (drop (i + 1) fs)) in
@@ -30,7 +30,7 @@ image_more fs i f before after whole lt is wrote so_far =
     ∙ so_far
 
 pub words_more : (is : List Inst) (i : ℕ) (inst : Inst) (before after whole : List ℕ) → i < length is → inst ≡ get_or is i inst
-  → after ≡ before ++ bytes 4 (word inst) → before ++ little_endian (map word (drop i is)) ≡ whole → after ++ little_endian (map word (drop (i + 1) is)) ≡ whole
+    → after ≡ before ++ bytes 4 (word inst) → before ++ little_endian (map word (drop i is)) ≡ whole → after ++ little_endian (map word (drop (i + 1) is)) ≡ whole
 unfolding little_endian
 words_more is i inst before after whole lt is_at wrote so_far =
     let rest = little_endian (map word (drop (i + 1) is)) in

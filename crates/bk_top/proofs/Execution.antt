@@ -1,9 +1,8 @@
 -- A function's code from its entry to its return.
-use Rattle.std.proofs.Common.{◌≡◌, ℕ, zero, suc, ◌+◌, ◌-◌, ◌*◌, ◌/◌, ◌%◌, ◌^◌, ◌<◌, ◌≤◌, ◌≢◌, List, [], ◌∷◌, ◌++◌, length, ap, ◌∙◌, sym, subst, refl, arith, Option, Some, None, ℤ, pos, neg_ℤ, length-append, inl, inr}
+use Rattle.std.proofs.Common.{◌≡◌, ℕ, zero, suc, ◌+◌, ◌-◌, ◌*◌, ◌/◌, ◌^◌, ◌<◌, ◌≤◌, List, [], ◌++◌, length, ap, ◌∙◌, subst, refl, arith, Some, pos, neg_ℤ, inl, inr}
 use Rattle.std.specs.Prelude.{slice_index, slice_set, replicate}
 use Rattle.std.proofs.lemmas.List.{length-set}
 use Rattle.bk_rv_isa.specs.declared.inst.ImmediateOp.TheVariants.{Addi}
-use Rattle.bk_rv_isa.specs.declared.inst.Inst.{Inst}
 use Rattle.bk_rv_isa.specs.declared.inst.Inst.TheVariants.{OpImm, Store}
 use Rattle.bk_rv_isa.specs.declared.inst.StoreOp.TheVariants.{Sd}
 use Rattle.bk_rv_isa.specs.declared.stop.Stop.TheVariants.{Returned, Trapped}

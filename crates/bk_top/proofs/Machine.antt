@@ -1,15 +1,13 @@
 -- The machine of a text alone, without pool and data: what one instruction does to its pc, registers and stack.
-use Rattle.std.proofs.Common.{◌≡◌, ℕ, ◌+◌, ◌*◌, ◌/◌, ◌%◌, ◌^◌, ◌<◌, ◌≤◌, List, [], length, ap, ◌∙◌, refl, arith, Option, Some, None, ℤ, pos}
-use Rattle.std.specs.Prelude.{slice_index, slice_set}
+use Rattle.std.proofs.Common.{◌≡◌, ℕ, ◌+◌, ◌*◌, ◌/◌, ◌%◌, ◌^◌, ◌<◌, ◌≤◌, List, [], length, ◌∙◌, arith, Some, ℤ}
 use Rattle.bk_rv_isa.specs.declared.inst.RegisterOp.TheVariants.{Add}
 use Rattle.bk_rv_isa.specs.declared.inst.ImmediateOp.TheVariants.{Addi}
 use Rattle.bk_rv_isa.specs.declared.inst.LoadOp.TheVariants.{Ld}
 use Rattle.bk_rv_isa.specs.declared.inst.StoreOp.TheVariants.{Sd}
 use Rattle.bk_rv_isa.specs.declared.inst.BranchOp.TheVariants.{Bgeu}
-use Rattle.bk_rv_isa.specs.declared.inst.Inst.{Inst}
-use Rattle.bk_rv_isa.specs.declared.inst.Inst.TheVariants.{Op, OpImm, Load, Store, Branch, Jalr, Ebreak}
+use Rattle.bk_rv_isa.specs.declared.inst.Inst.TheVariants.{Op, OpImm, Load, Store, Branch, Jalr}
 use Rattle.bk_rv_isa.specs.Bytes.{load_in, written}
-use Rattle.bk_rv_isa.specs.Machine.{Machine, IsPlaced, Leads, fetch, load, plus, put, reg}
+use Rattle.bk_rv_isa.specs.Machine.{Machine, IsPlaced, Leads, fetch, plus, put, reg}
 use Rattle.bk_rv_isa.proofs.Memory.{load_stack, store_stack}
 use Rattle.bk_rv_isa.proofs.Steps as Steps
 

@@ -1,13 +1,10 @@
 -- The code of the values fills the slots.
-use Rattle.std.proofs.Common.{◌≡◌, ℕ, zero, suc, ◌+◌, ◌-◌, ◌*◌, ◌/◌, ◌%◌, ◌^◌, ◌<◌, ◌≤◌, ◌≢◌, List, [], ◌∷◌, ◌++◌, length, ap, ◌∙◌, sym, subst, refl, arith, Option, Some, None, ℤ, pos, length-append, lit<}
+use Rattle.std.proofs.Common.{◌≡◌, ℕ, ◌+◌, ◌*◌, ◌%◌, ◌^◌, ◌<◌, ◌≤◌, ◌≢◌, List, [], ◌∷◌, ◌++◌, length, ap, ◌∙◌, subst, refl, arith, Some, pos, length-append}
 use Rattle.std.specs.Prelude.{slice_index, slice_set}
 use Rattle.std.proofs.lemmas.List.{length-set}
-use Rattle.bk_rv_isa.specs.declared.inst.RegisterOp.TheVariants.{Add}
-use Rattle.bk_rv_isa.specs.declared.inst.LoadOp.TheVariants.{Ld}
 use Rattle.bk_rv_isa.specs.declared.inst.StoreOp.TheVariants.{Sd}
-use Rattle.bk_rv_isa.specs.declared.inst.Inst.{Inst}
-use Rattle.bk_rv_isa.specs.declared.inst.Inst.TheVariants.{Op, Load, Store}
-use Rattle.bk_rv_isa.specs.Bytes.{load_in, written}
+use Rattle.bk_rv_isa.specs.declared.inst.Inst.TheVariants.{Store}
+use Rattle.bk_rv_isa.specs.Bytes.{written}
 use Rattle.bk_rv_isa.specs.Machine.{Machine, HasAt, Leads, fetch, plus}
 use Rattle.bk_rv_isa.proofs.Steps.{stays, then, has_front, has_back, same_reg, other_reg}
 use Rattle.bk_top.specs.declared.narrow.package.Value.{Value}

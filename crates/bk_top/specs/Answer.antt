@@ -1,6 +1,6 @@
 -- What the program answers to its words and its input.
-use Rattle.std.specs.Prelude.{◌≡◌, ℕ, ◌<◌, ◌≤◌, List, [], ◌∷◌, ◌++◌, length, take, Option, codes, ◌⊎◌, ⊤, if◌then◌else◌, ◌==◌}
-use Rattle.std.specs.Io.KnownBytes.{Appends, Keeps}
+use Rattle.std.specs.Prelude.{◌≡◌, ℕ, ◌<◌, ◌≤◌, List, [], ◌∷◌, length, take, Option, codes, ◌⊎◌, if◌then◌else◌, ◌==◌}
+use Rattle.std.specs.Io.KnownBytes.{Appends}
 use Rattle.bk_io.specs.Faults.{Rose}
 use Rattle.bk_top.specs.Narrow.{Narrow, IsNarrow}
 use Rattle.bk_rv_isa.specs.Machine.{text_base}

@@ -35,7 +35,10 @@ fn emit_unit(code: &mut Vec<Inst>, frame: u32, slot: u32, value: Value) -> Resul
 {
     match value {
         Value::Argument(place) => {
-            put(code, Inst::Load(LoadOp::Ld, 5, 2, frame as i64 + 8 * place as i64))?;
+            put(
+                code,
+                Inst::Load(LoadOp::Ld, 5, 2, frame as i64 + 8 * place as i64),
+            )?;
             put(code, Inst::Store(StoreOp::Sd, 5, 2, 8 * slot as i64))
         }
         Value::Sum(i, j) => {
@@ -47,13 +50,21 @@ fn emit_unit(code: &mut Vec<Inst>, frame: u32, slot: u32, value: Value) -> Resul
     }
 }
 
-fn emit_ending(code: &mut Vec<Inst>, frame: u32, result_slot: u8, arguments: u32) -> Result<(), AllocError>
+fn emit_ending(
+    code: &mut Vec<Inst>,
+    frame: u32,
+    result_slot: u8,
+    arguments: u32,
+) -> Result<(), AllocError>
     requires { (16 ≤ frame) × (frame ≤ 2040) × (arguments ≤ 63) }
     ensures { OnOk result (code.new.items ≡ code.old.items ++ ending frame result_slot arguments) }
 {
     let size = i64::from(frame);
     put(code, Inst::Load(LoadOp::Ld, 5, 2, 8 * result_slot as i64))?;
-    put(code, Inst::Store(StoreOp::Sd, 5, 2, size + 8 * arguments as i64))?;
+    put(
+        code,
+        Inst::Store(StoreOp::Sd, 5, 2, size + 8 * arguments as i64),
+    )?;
     put(code, Inst::Load(LoadOp::Ld, 1, 2, size - 8))?;
     put(code, Inst::OpImm(ImmediateOp::Addi, 2, 2, size))?;
     put(code, Inst::Jalr(0, 1, 0))
@@ -78,7 +89,12 @@ fn emit(alloc: Global, function: &Function) -> Result<Vec<Inst>, AllocError>
     let frame = 8 * (function.values.len() as u32 + 2);
     emit_entry(&mut code, frame)?;
     emit_units(&mut code, frame, &function.values)?;
-    emit_ending(&mut code, frame, function.result, function.parameters.len() as u32)?;
+    emit_ending(
+        &mut code,
+        frame,
+        function.result,
+        function.parameters.len() as u32,
+    )?;
     Ok(code)
 }
 

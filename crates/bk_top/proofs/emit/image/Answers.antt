@@ -1,7 +1,7 @@
-use Rattle.std.proofs.Common.{◌≡◌, ◌++◌, ap, ◌∙◌, sym, subst, arith, map, drop, length, ◌<◌}
+use Rattle.std.proofs.Common.{◌++◌, ap, ◌∙◌, sym, subst, arith, map}
 use Rattle.bk_rv_isa.specs.Encoding.{word}
-use Rattle.bk_top.specs.Narrow.{view, IsWellFormed}
-use Rattle.bk_top.specs.Code.{code, image, little_endian, FitAll}
+use Rattle.bk_top.specs.Narrow.{view}
+use Rattle.bk_top.specs.Code.{image, little_endian, FitAll}
 use Rattle.bk_top.proofs.Computes.{fit_code}
 use Rattle.bk_top.proofs.Emitted.{well_formed_at, image_more}
 use Rattle.bk_top.proofs.emit.image.Goals as goal

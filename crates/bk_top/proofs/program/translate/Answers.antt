@@ -1,5 +1,5 @@
-use Rattle.std.proofs.Common.{◌≡◌, ap, ◌∙◌, map, arith, length, ◌<◌}
-use Rattle.bk_top.specs.Narrow.{IsNarrow, view}
+use Rattle.std.proofs.Common.{◌≡◌, ap, ◌∙◌, map, arith}
+use Rattle.bk_top.specs.Narrow.{view}
 use Rattle.bk_top.specs.Code.{image}
 use Rattle.bk_top.proofs.Computes.{image_computes}
 use Rattle.bk_top.proofs.program.translate.Goals as goal
