@@ -36,6 +36,7 @@ group_at opcode low =
     else (if opcode / 32 == 3 then G.Media
     else G.Branch))))
 
+-- the condition of a number below 15
 abbrev pub condition_of : ℕ → Condition
 condition_of number =
     if number == 0 then Eq else (if number == 1 then Ne else (if number == 2 then Cs else (if number == 3 then Cc
@@ -43,18 +44,22 @@ condition_of number =
     else (if number == 8 then Hi else (if number == 9 then Ls else (if number == 10 then Ge else (if number == 11 then Lt
     else (if number == 12 then Gt else (if number == 13 then Le else Al)))))))))))))
 
+-- the operation of an opcode, which is that of one
 abbrev pub data_op_of : ℕ → DataOp
 data_op_of opcode =
     if opcode == 0 then And else (if opcode == 1 then Eor else (if opcode == 2 then Sub else (if opcode == 3 then Rsb
     else (if opcode == 4 then Add else (if opcode == 5 then Adc else (if opcode == 6 then Sbc else (if opcode == 7 then Rsc
     else (if opcode == 12 then Orr else Bic))))))))
 
+-- the same for MOV and MVN
 abbrev pub move_op_of : ℕ → MoveOp
 move_op_of opcode = if opcode == 13 then Mov else Mvn
 
+-- the same for the tests
 abbrev pub test_op_of : ℕ → TestOp
 test_op_of opcode = if opcode == 8 then Tst else (if opcode == 9 then Teq else (if opcode == 10 then Cmp else Cmn))
 
+-- the shift of a number below 4
 abbrev pub shift_of : ℕ → Shift
 shift_of number = if number == 0 then Lsl else (if number == 1 then Lsr else (if number == 2 then Asr else Ror))
 
@@ -62,27 +67,33 @@ shift_of number = if number == 0 then Lsl else (if number == 1 then Lsr else (if
 abbrev pub field : ℕ → ℕ → ℕ
 field n at = n / 2 ^ at % 16
 
+-- the second operand of data processing at the low bits and bit 25
 abbrev pub operand2_of : ℕ → Operand2
 operand2_of n =
     if n / 2 ^ 25 % 2 == 1 then Immediate (n % 256) (field n 8)
     else (if n / 2 ^ 4 % 2 == 1 then ShiftRegister (field n 0) (shift_of (n / 2 ^ 5 % 4)) (field n 8)
     else ShiftImmediate (field n 0) (shift_of (n / 2 ^ 5 % 4)) (n / 2 ^ 7 % 32))
 
+-- data processing of two operands into a register
 abbrev pub data_of : ℕ → Inst
 data_of n = Data (condition_of (n / 2 ^ 28)) (data_op_of (n / 2 ^ 21 % 16)) (field n 12) (field n 16) (operand2_of n)
 
+-- MOV or MVN
 abbrev pub move_of : ℕ → Inst
 move_of n = Move (condition_of (n / 2 ^ 28)) (move_op_of (n / 2 ^ 21 % 16)) (field n 12) (operand2_of n)
 
+-- a test
 abbrev pub test_of : ℕ → Inst
 test_of n = Test (condition_of (n / 2 ^ 28)) (test_op_of (n / 2 ^ 21 % 16)) (field n 16) (operand2_of n)
 
+-- MOVW or MOVT
 abbrev pub wide_of : ℕ → Inst
 wide_of n =
     if n / 2 ^ 22 % 2 == 0
     then Movw (condition_of (n / 2 ^ 28)) (field n 12) (field n 16 * 2 ^ 12 + n % 2 ^ 12)
     else Movt (condition_of (n / 2 ^ 28)) (field n 12) (field n 16 * 2 ^ 12 + n % 2 ^ 12)
 
+-- a multiplication, by bits 23 to 20
 abbrev pub multiply_of : ℕ → Inst
 multiply_of n =
     if field n 20 == 0 then Mul (condition_of (n / 2 ^ 28)) (field n 16) (field n 0) (field n 8)
@@ -90,12 +101,14 @@ multiply_of n =
     else (if field n 20 == 8 then Umull (condition_of (n / 2 ^ 28)) (field n 12) (field n 16) (field n 0) (field n 8)
     else Smull (condition_of (n / 2 ^ 28)) (field n 12) (field n 16) (field n 0) (field n 8)))
 
+-- BX or CLZ
 abbrev pub miscellaneous_of : ℕ → Inst
 miscellaneous_of n =
     if n / 2 ^ 22 % 2 == 0
     then Bx (condition_of (n / 2 ^ 28)) (field n 0)
     else Clz (condition_of (n / 2 ^ 28)) (field n 12) (field n 0)
 
+-- an access to a word or a byte
 abbrev pub memory_of : ℕ → Inst
 memory_of n =
     if n / 2 ^ 20 % 8 == 0 then Str (condition_of (n / 2 ^ 28)) (field n 12) (field n 16) (n % 2 ^ 12)
@@ -103,12 +116,14 @@ memory_of n =
     else (if n / 2 ^ 20 % 8 == 4 then Strb (condition_of (n / 2 ^ 28)) (field n 12) (field n 16) (n % 2 ^ 12)
     else Ldrb (condition_of (n / 2 ^ 28)) (field n 12) (field n 16) (n % 2 ^ 12)))
 
+-- an access to two bytes
 abbrev pub half_of : ℕ → Inst
 half_of n =
     if n / 2 ^ 20 % 2 == 0
     then Strh (condition_of (n / 2 ^ 28)) (field n 12) (field n 16) (field n 8 * 2 ^ 4 + field n 0)
     else Ldrh (condition_of (n / 2 ^ 28)) (field n 12) (field n 16) (field n 8 * 2 ^ 4 + field n 0)
 
+-- a division, an extension, RBIT or UDF, by bits 24 to 20
 abbrev pub media_of : ℕ → Inst
 media_of n =
     if n / 2 ^ 20 % 32 == 0x11 then Sdiv (condition_of (n / 2 ^ 28)) (field n 16) (field n 0) (field n 8)
@@ -120,11 +135,12 @@ media_of n =
     then (if n / 2 ^ 6 % 2 == 0 then Rbit (condition_of (n / 2 ^ 28)) (field n 12) (field n 0) else Uxth (condition_of (n / 2 ^ 28)) (field n 12) (field n 0))
     else Udf (n / 2 ^ 8 % 2 ^ 12 * 2 ^ 4 + field n 0))))))
 
+-- B or BL
 abbrev pub branch_of : ℕ → Inst
 branch_of n =
     if n / 2 ^ 24 % 2 == 0 then B (condition_of (n / 2 ^ 28)) (signed 24 n) else Bl (condition_of (n / 2 ^ 28)) (signed 24 n)
 
--- the fields of a word, with no look at its other bits and at limits
+-- the instruction of a group at a word's fields, with no look at the other bits and at limits
 abbrev pub read_as : Group → ℕ → Inst
 read_as G.Data n = data_of n
 read_as G.Move n = move_of n
@@ -137,6 +153,7 @@ read_as G.Half n = half_of n
 read_as G.Media n = media_of n
 read_as G.Branch n = branch_of n
 
+-- the fields of a word, read as those of its group
 unfoldable pub reading : ℕ → Inst
 reading n = read_as (group_at (n / 2 ^ 20 % 256) (n / 2 ^ 4 % 16)) n
 

@@ -16,6 +16,7 @@ use Rattle.bk_arm_isa.specs.declared.Operand2.TheVariants.{Immediate, ShiftImmed
 use Rattle.bk_arm_isa.specs.declared.Inst.{Inst}
 use Rattle.bk_arm_isa.specs.declared.Inst.TheVariants.{Data, Move, Test, Movw, Movt, Mul, Mls, Umull, Smull, Sdiv, Udiv, Clz, Rbit, Sxtb, Sxth, Uxtb, Uxth, Ldr, Str, Ldrb, Strb, Ldrh, Strh, B, Bl, Bx, Udf}
 
+-- the condition field, bits 31 to 28
 abbrev pub condition_number : Condition → ℕ
 condition_number Eq = 0
 condition_number Ne = 1
@@ -33,6 +34,7 @@ condition_number Gt = 12
 condition_number Le = 13
 condition_number Al = 14
 
+-- the opcode field of data processing, bits 24 to 21
 abbrev pub data_opcode : DataOp → ℕ
 data_opcode And = 0
 data_opcode Eor = 1
@@ -45,16 +47,19 @@ data_opcode Rsc = 7
 data_opcode Orr = 12
 data_opcode Bic = 14
 
+-- the same of MOV and MVN
 abbrev pub move_opcode : MoveOp → ℕ
 move_opcode Mov = 13
 move_opcode Mvn = 15
 
+-- the same of the tests
 abbrev pub test_opcode : TestOp → ℕ
 test_opcode Tst = 8
 test_opcode Teq = 9
 test_opcode Cmp = 10
 test_opcode Cmn = 11
 
+-- the type field of a shift, bits 6 and 5
 abbrev pub shift_number : Shift → ℕ
 shift_number Lsl = 0
 shift_number Lsr = 1
@@ -93,6 +98,7 @@ keeps_carry (ShiftImmediate rm Asr imm5) = false
 keeps_carry (ShiftImmediate rm Ror imm5) = false
 keeps_carry (ShiftRegister rm shift rs) = false
 
+-- the operands of each test
 abbrev pub takes : TestOp → Operand2 → Bool
 takes Tst o = keeps_carry o
 takes Teq o = keeps_carry o
