@@ -2,7 +2,9 @@
 
 ghost use Rattle.std.specs.Prelude.{◌≡◌, ◌≤◌, ◌<◌, ◌-◌, ◌↔◌, ◌⊎◌, ◌++◌, [], Some, None, drop, take, min, length, vec_len, Contains, IsErr, IfOk, OnErr};
 ghost use Rattle.bk_io.specs.Faults.{HasCause};
-ghost use Rattle.bk_io.specs.States.{SourceState, SinkState, IsStep, within_step, after_read, after_failed_read, after_write, after_failed_write};
+ghost use Rattle.bk_io.specs.States.{SourceState, after_failed_read, after_read, new_source};
+ghost use Rattle.bk_io.specs.States.{SinkState, after_failed_write, after_write, new_sink};
+ghost use Rattle.bk_io.specs.States.{IsStep, within_step};
 
 use crate::errors::{Failed, Memory};
 use crate::reading::Source;
@@ -24,7 +26,13 @@ pub struct MemSource {
 impl Model for MemSource {
     ghost Value = { SourceState };
 
-    ghost view = { λ s. record { left = drop s.at s.bytes.items; step = s.step; fails = s.fails.items; calls = s.calls; faults = s.faults } };
+    ghost view = { λ s. record {
+      left = drop s.at s.bytes.items;
+      step = s.step;
+      fails = s.fails.items;
+      calls = s.calls;
+      faults = s.faults;
+    } };
 
     ghost invariant = { λ s. (s.at ≤ vec_len s.bytes) × IsStep s.step };
 }
@@ -32,7 +40,7 @@ impl Model for MemSource {
 impl MemSource {
     /// A source of `bytes`. The reads whose numbers, from 0 on, stand in `fails` fail.
     pub fn new(bytes: Vec<u8>, fails: Vec<u64>) -> MemSource
-        ensures { result ≡ record { left = bytes.items; step = None; fails = fails.items; calls = 0; faults = 0 } }
+        ensures { result ≡ new_source bytes.items None fails.items }
     {
         MemSource {
             bytes,
@@ -47,7 +55,7 @@ impl MemSource {
     /// As [`MemSource::new`], but each read moves at most `step` bytes.
     pub fn slow(bytes: Vec<u8>, step: usize, fails: Vec<u64>) -> MemSource
         requires { 1 ≤ step }
-        ensures { result ≡ record { left = bytes.items; step = Some step; fails = fails.items; calls = 0; faults = 0 } }
+        ensures { result ≡ new_source bytes.items (Some step) fails.items }
     {
         MemSource {
             bytes,
@@ -92,7 +100,8 @@ impl Source for MemSource {
     /// Fails exactly at the listed numbers. Else it moves what the buffer, the bytes left and the step allow.
     fn read(&mut self, buf: &mut [u8]) -> Result<usize, Failed>
         ensures fails { IsErr result ↔ Contains self.old.fails self.old.calls }
-        ensures count { IfOk result (λ n. n ≡ within_step self.old.step (min (length buf.old) (length self.old.left))) }
+        ensures count { IfOk result (λ n.
+            n ≡ within_step self.old.step (min (length buf.old) (length self.old.left))) }
         ensures end { IfOk result (λ n. n ≡ 0 → 0 < length buf.old → self.old.left ≡ []) }
         ensures moved { IfOk result (λ n. buf.new ≡ take n self.old.left ++ drop n buf.old) }
         ensures after { IfOk result (λ n. self.new ≡ after_read self.old n) }
@@ -129,7 +138,14 @@ pub struct MemSink {
 impl Model for MemSink {
     ghost Value = { SinkState };
 
-    ghost view = { λ s. record { written = take s.at s.bytes.items; room = vec_len s.bytes - s.at; step = s.step; fails = s.fails.items; calls = s.calls; faults = s.faults } };
+    ghost view = { λ s. record {
+      written = take s.at s.bytes.items;
+      room = vec_len s.bytes - s.at;
+      step = s.step;
+      fails = s.fails.items;
+      calls = s.calls;
+      faults = s.faults;
+    } };
 
     ghost invariant = { λ s. (s.at ≤ vec_len s.bytes) × IsStep s.step };
 }
@@ -137,7 +153,7 @@ impl Model for MemSink {
 impl MemSink {
     /// A sink with room for `room` bytes. The writes whose numbers, from 0 on, stand in `fails` fail.
     pub fn new(alloc: Global, room: usize, fails: Vec<u64>) -> Result<MemSink, Memory>
-        ensures { IfOk result (λ sink. sink ≡ record { written = []; room = room; step = None; fails = fails.items; calls = 0; faults = 0 }) }
+        ensures { IfOk result (λ sink. sink ≡ new_sink room None fails.items) }
     {
         let bytes = vec![in alloc; 0u8; room]?;
         Ok(MemSink {
@@ -153,7 +169,7 @@ impl MemSink {
     /// As [`MemSink::new`], but each write moves at most `step` bytes.
     pub fn slow(alloc: Global, room: usize, step: usize, fails: Vec<u64>) -> Result<MemSink, Memory>
         requires { 1 ≤ step }
-        ensures { IfOk result (λ sink. sink ≡ record { written = []; room = room; step = Some step; fails = fails.items; calls = 0; faults = 0 }) }
+        ensures { IfOk result (λ sink. sink ≡ new_sink room (Some step) fails.items) }
     {
         let bytes = vec![in alloc; 0u8; room]?;
         Ok(MemSink {
@@ -189,7 +205,8 @@ impl Sink for MemSink {
     /// Fails exactly at the listed numbers and without room. Else it moves what the piece, the room and the step allow.
     fn write(&mut self, piece: &[u8]) -> Result<usize, Failed>
         ensures fails { IsErr result ↔ ((self.old.room ≡ 0) ⊎ Contains self.old.fails self.old.calls) }
-        ensures count { IfOk result (λ n. n ≡ within_step self.old.step (min (length piece.now) self.old.room)) }
+        ensures count { IfOk result (λ n.
+            n ≡ within_step self.old.step (min (length piece.now) self.old.room)) }
         ensures some { IfOk result (λ n. 0 < length piece.now → 0 < n) }
         ensures after { IfOk result (λ n. self.new ≡ after_write self.old n piece.now) }
         ensures failed { OnErr result (self.new ≡ after_failed_write self.old) }

@@ -42,13 +42,18 @@ pub fn read_all<S: Source>(
     ensures later { S.faults source.old ≤ S.faults source.new }
 
     // Each error has its cause.
-    ensures fault { IsErrOf result ReadError.ReadFault → Rose (S.faults source.old) (S.faults source.new) }
-    ensures too_long { IsErrOf result ReadError.TooLong → IfSome (S.left source.old) (λ left. limit < length left) }
+    ensures fault { IsErrOf result ReadError.ReadFault →
+        Rose (S.faults source.old) (S.faults source.new) }
+    ensures too_long { IsErrOf result ReadError.TooLong →
+        IfSome (S.left source.old) (λ left. limit < length left) }
 
     // What each error took from the source.
-    ensures at_fault { IsErrOf result ReadError.ReadFault → TookAtMost (S.left source.old) (S.left source.new) limit }
-    ensures at_too_long { IsErrOf result ReadError.TooLong → TookExactly (S.left source.old) (S.left source.new) (limit + 1) }
-    ensures at_memory { IsErrOf result ReadError.Memory → TookAtMost (S.left source.old) (S.left source.new) (limit + 1) }
+    ensures at_fault { IsErrOf result ReadError.ReadFault →
+        TookAtMost (S.left source.old) (S.left source.new) limit }
+    ensures at_too_long { IsErrOf result ReadError.TooLong →
+        TookExactly (S.left source.old) (S.left source.new) (limit + 1) }
+    ensures at_memory { IsErrOf result ReadError.Memory →
+        TookAtMost (S.left source.old) (S.left source.new) (limit + 1) }
 {
     let mut bytes = Vec::new(alloc);
     let mut piece = [0u8; PIECE];

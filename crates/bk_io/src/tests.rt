@@ -1,6 +1,6 @@
 //! One table for each object: which calls fail, how much each moves, and what reading and writing all of a text answer.
 
-use crate::errors::{Failed, Memory, ReadError};
+use crate::errors::{Failed, ReadError};
 use crate::gates::{Gate, Open};
 use crate::in_memory::{MemSink, MemSource};
 use crate::reading::{Source, read_all};
@@ -70,9 +70,7 @@ fn sink_in_memory(rt: HostRuntime) -> Result<(), Fail> {
         (4, 2, [Ok(3), Ok(1), Err(Failed)], 4, 1),
     ];
     for (room, fails, answers, length, faults) in &rows {
-        let mut sink = MemSink::new(rt.alloc(), *room, [*fails].to_vec(rt.alloc())?).map_err(
-            refused,
-        )?;
+        let mut sink = MemSink::new(rt.alloc(), *room, [*fails].to_vec(rt.alloc())?)?;
         for answer in answers {
             assert_eq!(rt;
                 sink.write(&[7, 8, 9]),
@@ -89,14 +87,10 @@ fn sink_in_memory(rt: HostRuntime) -> Result<(), Fail> {
         );
         assert_eq!(rt; sink.faults(), *faults, "at room {room}, fails {fails}");
     }
-    let mut slow = MemSink::slow(rt.alloc(), 100, 2, Vec::new(rt.alloc())).map_err(refused)?;
+    let mut slow = MemSink::slow(rt.alloc(), 100, 2, Vec::new(rt.alloc()))?;
     assert_eq!(rt; slow.write(&[7, 8, 9]), Ok(2));
     assert_eq!(rt; slow.bytes(), [7, 8].as_slice());
     Ok(())
-}
-
-fn refused(_memory: Memory) -> std::alloc::AllocError {
-    std::alloc::AllocError
 }
 
 #[test]
@@ -138,9 +132,7 @@ fn writes_all(rt: HostRuntime) -> Result<(), Fail> {
         (100, 2, Err(Failed), 4, 1),
     ];
     for (room, fails, answer, length, faults) in &rows {
-        let mut sink = MemSink::slow(rt.alloc(), *room, 2, [*fails].to_vec(rt.alloc())?).map_err(
-            refused,
-        )?;
+        let mut sink = MemSink::slow(rt.alloc(), *room, 2, [*fails].to_vec(rt.alloc())?)?;
         assert_eq!(rt; write_all(&mut sink, b"hello"), *answer, "at room {room}");
         assert_eq!(rt; sink.bytes().len(), *length, "at room {room}");
         assert!(rt; b"hello".starts_with(sink.bytes()), "at room {room}");

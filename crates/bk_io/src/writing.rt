@@ -27,7 +27,8 @@ pub trait Sink {
 /// Writes all of the bytes. After [`Failed`] a front of them was written, and not all.
 pub fn write_all<K: Sink>(sink: &mut K, bytes: &[u8]) -> Result<(), Failed>
     ensures all { OnOk result (Appends (K.written sink.old) (K.written sink.new) bytes.now) }
-    ensures front { OnErr result ((n : ℕ) × (n < length bytes.now) × Appends (K.written sink.old) (K.written sink.new) (take n bytes.now)) }
+    ensures front { OnErr result ((n : ℕ) × (n < length bytes.now)
+        × Appends (K.written sink.old) (K.written sink.new) (take n bytes.now)) }
     ensures cause { HasCause (K.faults sink.old) (K.faults sink.new) result }
 {
     let mut at = 0;
