@@ -8,7 +8,7 @@ mod table;
 mod types;
 
 pub use family::{ArmOp, Family, RvOp};
-pub use names::op_name;
+pub use names::{op_name, op_of_name};
 pub use table::{op_info, AuxKind, Class, Op, OpInfo};
 pub use types::{code, size, width, Target, Ty};
 
