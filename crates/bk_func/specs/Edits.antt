@@ -75,13 +75,10 @@ renamed_block old new b = record b {
 abbrev pub replaced : FuncRecord → ℕ → ℕ → FuncRecord
 replaced f old new = record f { blocks = map (renamed_block old new) f.blocks }
 
--- the list with y in place of the x that k others stand before
-unfoldable pub replace_nth : ℕ → ℕ → ℕ → List ℕ → List ℕ
-replace_nth x y k [] = []
-replace_nth x y k (z ∷ zs) =
-    if z == x
-    then (if k == 0 then y ∷ zs else z ∷ replace_nth x y (k - 1) zs)
-    else z ∷ replace_nth x y k zs
+-- the place of the x that k others stand before, the length where there is none
+unfoldable pub nth_place : ℕ → ℕ → List ℕ → ℕ
+nth_place x k [] = 0
+nth_place x k (z ∷ zs) = if z == x then (if k == 0 then 0 else 1 + nth_place x (k - 1) zs) else 1 + nth_place x k zs
 
 -- the successor at this place of the first block with this number; 0 where it has none
 abbrev pub successor_in : Option BlockRecord → ℕ → ℕ
@@ -109,7 +106,7 @@ abbrev pub with_succ : ℕ → ℕ → BlockRecord → BlockRecord
 with_succ index id b = record b { succs = slice_set b.succs index id }
 
 abbrev pub with_pred : ℕ → ℕ → ℕ → BlockRecord → BlockRecord
-with_pred from id k b = record b { preds = replace_nth from id k b.preds }
+with_pred from id k b = record b { preds = slice_set b.preds (nth_place from k b.preds) id }
 
 -- the blocks with the edge from one block to another, of rank k, going through the new block id, which is last
 abbrev pub through : ℕ → ℕ → ℕ → ℕ → ℕ → List BlockRecord → List BlockRecord
@@ -124,6 +121,7 @@ split f from index = record f {
 }
 
 -- the block has a successor at this place, and the successor is a block
-abbrev pub IsEdge : FuncRecord → ℕ → ℕ → Type 0
-IsEdge f from index =
-    IsSome (block_of f from) × (IfSome (block_of f from) (λ b. index < length b.succs) × IsSome (block_of f (successor_in (block_of f from) index)))
+pub record IsEdge (f : FuncRecord) (from index : ℕ) : Type 0 where
+  pub block : IsSome (place_of f from)
+  pub within : IfSome (block_of f from) (λ b. index < length b.succs)
+  pub successor : IsSome (place_of f (successor_in (block_of f from) index))

@@ -1,7 +1,7 @@
 // Edits of a function.
-ghost use Rattle.std.specs.Prelude.{◌≡◌, ◌+◌, ◌-◌, ◌%◌, ◌^◌, ◌<◌, ◌==◌, map, max, fold, sum_by, position, length, IsSome, IfSome, IfOk, OnOk, OnErr};
+ghost use Rattle.std.specs.Prelude.{◌≡◌, ◌+◌, ◌-◌, ◌%◌, ◌^◌, ◌<◌, ◌==◌, map, max, fold, sum_by, position, length, slice_index, Some, IsSome, IfSome, IfOk, OnOk, OnErr};
 ghost use Rattle.std.specs.List.{find};
-ghost use Rattle.bk_func.specs.Edits.{greatest_value, greatest_block, place_of, change_block, with_value, value_of, added, control_uses, value_uses, block_uses, uses_of, renamed, renamed_control, renamed_value, renamed_block, replaced, replace_nth, successor_in, rank_in, between, with_succ, with_pred, through, split, IsEdge};
+ghost use Rattle.bk_func.specs.Edits.{greatest_value, greatest_block, place_of, change_block, with_value, value_of, added, control_uses, value_uses, block_uses, uses_of, renamed, renamed_control, renamed_value, renamed_block, replaced, nth_place, successor_in, rank_in, between, with_succ, with_pred, through, split, IsEdge};
 
 use crate::{Aux, Block, Func, Kind, Likely, Memory, Value};
 use bk_ops::{Op, Ty};
@@ -217,22 +217,47 @@ pub fn split_edge(alloc: Global, func: &mut Func, from: u32, index: usize) -> Re
     let (to, rank) = edge(&func.blocks, from, index);
     let block = block_between(alloc, id, from, to)?;
     func.blocks.reserve(1)?;
-    set_succ(&mut func.blocks, from, index, id);
-    set_pred(&mut func.blocks, to, from, rank, id);
+    redirect(&mut func.blocks, from, index, to, rank, id);
     func.blocks.push_reserved(block);
     Ok(id)
 }
 
 /// The successor at `index` of the block `from`, and how many edges before it go there too.
 fn edge(blocks: &[Block], from: u32, index: usize) -> (u32, usize)
+    requires there { IsSome (position (λ b. b.id == from) blocks.now) }
     requires within { IfSome (find (λ b. b.id == from) blocks.now) (λ b. index < length b.succs) }
-    requires there { IsSome (find (λ b. b.id == from) blocks.now) }
+    requires successor {
+        IsSome (position (λ b. b.id == successor_in (find (λ b. b.id == from) blocks.now) index) blocks.now)
+    }
     ensures to { result.0 ≡ successor_in (find (λ b. b.id == from) blocks.now) index }
     ensures rank { result.1 ≡ rank_in (find (λ b. b.id == from) blocks.now) index }
+    ensures there { IsSome (position (λ b. b.id == result.0) blocks.now) }
 {
-    let Some(block) = blocks.iter().find(|block| block.id == from) else { unreachable!() };
+    let Some(place) = place(blocks, from) else { unreachable!() };
+    let block = &blocks[place];
+    edge_at(block, index)
+}
+
+fn edge_at(block: &Block, index: usize) -> (u32, usize)
+    requires { index < length block.now.succs }
+    ensures to { result.0 ≡ slice_index block.now.succs index }
+    ensures rank { result.1 ≡ rank_in (Some block.now) index }
+{
     let to = block.succs[index];
     (to, block.succs[..index].iter().filter(|succ| **succ == to).count())
+}
+
+/// Makes the edge from `from` to `to`, of this rank, go to the block `id`, and come to `to` from there.
+fn redirect(blocks: &mut [Block], from: u32, index: usize, to: u32, rank: usize, id: u32)
+    requires there { IsSome (position (λ b. b.id == from) blocks.old) }
+    requires within { IfSome (find (λ b. b.id == from) blocks.old) (λ b. index < length b.succs) }
+    requires successor { IsSome (position (λ b. b.id == to) blocks.old) }
+    ensures {
+        blocks.new ≡ change_block to (with_pred from id rank) (change_block from (with_succ index id) blocks.old)
+    }
+{
+    set_succ(blocks, from, index, id);
+    set_pred(blocks, to, from, rank, id);
 }
 
 fn block_between(alloc: Global, id: u32, from: u32, to: u32) -> Result<Block, AllocError>
@@ -283,24 +308,29 @@ fn set_pred(blocks: &mut [Block], to: u32, from: u32, rank: usize, id: u32)
     put_pred(block, from, rank, id);
 }
 
+#[tactic(auto, using(crate::proofs::Places::set_past))]
 fn put_pred(block: &mut Block, from: u32, rank: usize, id: u32)
     ensures { block.new ≡ with_pred from id rank block.old }
 {
-    replace_nth(&mut block.preds, from, rank, id);
+    let place = nth_place(&block.preds, from, rank);
+    if place < block.preds.len() {
+        block.preds[place] = id;
+    }
 }
 
-/// Puts `new` in place of the `old` that `rank` others stand before.
-fn replace_nth(numbers: &mut [u32], old: u32, rank: usize, new: u32)
-    ensures { numbers.new ≡ replace_nth old new rank numbers.old }
+/// The place of the `number` that `rank` others stand before, the length where there is none.
+#[tactic(auto, using(crate::proofs::Places::place_rules))]
+fn nth_place(numbers: &[u32], number: u32, rank: usize) -> usize
+    ensures { result ≡ nth_place number rank numbers.now }
 {
     let mut left = rank;
-    for number in numbers.iter_mut() {
-        if *number == old {
+    for (place, other) in numbers.iter().enumerate() {
+        if *other == number {
             if left == 0 {
-                *number = new;
-                return;
+                return place;
             }
             left -= 1;
         }
     }
+    numbers.len()
 }

@@ -1,6 +1,9 @@
 //! Types, ops and the op table.
 #![tactic(auto)]
 
+#[cfg(test)]
+mod tests;
+
 mod family;
 mod index;
 mod names;
