@@ -1,6 +1,6 @@
 -- A name is read back as its op, and what is read is the op of the name.
-use Rattle.std.proofs.Common.{◌≡◌, ℕ, ◌+◌, ◌<◌, ◌≤◌, Bool, true, false, ◌⊎◌, inl, inr, refl, sym, ◌∙◌, ap, subst, List, [], ◌∷◌, ◌++◌, length, Option, Some, None, append-nil, take-append-drop, ◌==◌, ◌&&◌, nat_lt, if◌then◌else◌, arith, position, take, drop}
-use Rattle.std.proofs.lemmas.Bool.{false≢true, eqb-true, and_parts, or_cases, cases_Bool}
+use Rattle.std.proofs.Common.{◌≡◌, ℕ, Bool, true, false, inl, inr, refl, sym, ◌∙◌, ap, subst, List, [], ◌∷◌, ◌++◌, length, Option, Some, None, append-nil, take-append-drop, ◌==◌, ◌&&◌, nat_lt, if◌then◌else◌, arith, position}
+use Rattle.std.proofs.lemmas.Bool.{false≢true, eqb-true, and_parts, or_cases}
 use Rattle.std.proofs.lemmas.Slice.Eq.{bytes_eq-Decides}
 use Rattle.std.specs.List.{find}
 use Rattle.bk_ops.specs.declared.family.Family.{Family}
@@ -12,7 +12,7 @@ use Rattle.bk_ops.specs.declared.table.Widths.TheVariants.{Alone, Each, Long, On
 use Rattle.bk_ops.specs.declared.table.Op.{Op}
 use Rattle.bk_ops.specs.Table.{entry, row, arm_row, rv_row, allows, is_width, is_op}
 use Rattle.bk_ops.specs.Names.{digits, spelled, name_of, HasName}
-use Rattle.bk_ops.specs.Reading.{families_of, begins_width, front_to, back_from, front, back, one_digit, two_digits, width_at, is_spelt, family_of, op_at, with_second, with_first, read}
+use Rattle.bk_ops.specs.Reading.{families_of, begins_width, front_to, back_from, front, back, one_digit, width_at, is_spelt, family_of, op_at, read}
 
 -- what holds at each choice of widths
 abbrev AtEach : (ℕ → Type 0) → Type 0
@@ -204,14 +204,14 @@ no e = absurd (false≢true e)
 one_width : (P : ℕ → Type 0) → AtEach P → (a : ℕ) → is_width a ≡ true → P a
 one_width P (x, (y, (z, w))) a e =
     elim (or_cases _ _ e) [
-        inr p ↦ subst P (sym (eqb-true a 64 p)) w
+      | inr p ↦ subst P (sym (eqb-true a 64 p)) w
+      | inl q ↦ elim (or_cases _ _ q) [
+        | inr p ↦ subst P (sym (eqb-true a 32 p)) z
         | inl q ↦ elim (or_cases _ _ q) [
-            inr p ↦ subst P (sym (eqb-true a 32 p)) z
-            | inl q ↦ elim (or_cases _ _ q) [
-                inr p ↦ subst P (sym (eqb-true a 16 p)) y
-                | inl p ↦ subst P (sym (eqb-true a 8 p)) x
-            ]
+          | inr p ↦ subst P (sym (eqb-true a 16 p)) y
+          | inl p ↦ subst P (sym (eqb-true a 8 p)) x
         ]
+      ]
     ]
 
 alone : (P : ℕ → ℕ → Type 0) (a x b : ℕ) → P x 0 → (a == x) ≡ true → (b == 0) ≡ true → P a b
@@ -245,17 +245,17 @@ at_widths Falling P ((h41, (h42, h43)), ((h31, h32), h21)) a b e =
 at_widths UpTo4 P (x, (y, z)) a b e =
     let (p, q) = and_parts _ _ e in
     elim (or_cases _ _ p) [
-        inr p ↦ alone P a 4 b z p q
-        | inl p ↦ elim (or_cases _ _ p) [ inr p ↦ alone P a 2 b y p q | inl p ↦ alone P a 1 b x p q ]
+      | inr p ↦ alone P a 4 b z p q
+      | inl p ↦ elim (or_cases _ _ p) [ inr p ↦ alone P a 2 b y p q | inl p ↦ alone P a 1 b x p q ]
     ]
 at_widths UpTo8 P (x, (y, (z, w))) a b e =
     let (p, q) = and_parts _ _ e in
     elim (or_cases _ _ p) [
-        inr p ↦ alone P a 8 b w p q
-        | inl p ↦ elim (or_cases _ _ p) [
-            inr p ↦ alone P a 4 b z p q
-            | inl p ↦ elim (or_cases _ _ p) [ inr p ↦ alone P a 2 b y p q | inl p ↦ alone P a 1 b x p q ]
-        ]
+      | inr p ↦ alone P a 8 b w p q
+      | inl p ↦ elim (or_cases _ _ p) [
+        | inr p ↦ alone P a 4 b z p q
+        | inl p ↦ elim (or_cases _ _ p) [ inr p ↦ alone P a 2 b y p q | inl p ↦ alone P a 1 b x p q ]
+      ]
     ]
 
 -- the name of an op is read as the op
@@ -332,11 +332,13 @@ unfolding is_spelt name_of spelled
 in_table a b h t n f s e w =
     let (p, q) = and_parts _ _ s in
     let head : (row f a b).head ≡ h = (bytes_eq-Decides (row f a b).head h).0 p in
-    let tail : (row f a b).tail ≡ t = (bytes_eq-Decides (row f a b).tail t).0 q in
-    (e, ap (λ t. if t then (row f a b).head ++ (digits a ++ ((row f a b).tail ++ digits b)) else []) e
-        ∙ ap (λ x. x ++ (digits a ++ ((row f a b).tail ++ digits b))) head
-        ∙ ap (λ x. h ++ (digits a ++ (x ++ digits b))) tail
-        ∙ w)
+    let tail : (row f a b).tail ≡ t = (bytes_eq-Decides (row f a b).tail t).0 q in (
+      e,
+      ap (λ t. if t then (row f a b).head ++ (digits a ++ ((row f a b).tail ++ digits b)) else []) e
+          ∙ ap (λ x. x ++ (digits a ++ ((row f a b).tail ++ digits b))) head
+          ∙ ap (λ x. h ++ (digits a ++ (x ++ digits b))) tail
+          ∙ w,
+    )
 
 placed : (m : Option Family) (a b : ℕ) (h t r n : List ℕ) (o : Op) → family_of a b h t ≡ m
     → h ++ (digits a ++ (t ++ (digits b ++ r))) ≡ n → op_at m a b r ≡ Some o → HasName o n
@@ -345,9 +347,9 @@ placed None a b h t r n o p w e = cc
 placed (Some f) a b h t r n o p w e =
     picked (length r == 0 && is_op f a b) (Some (record { family = f; a = a; b = b })) None (λ x. x ≡ Some o → HasName o n)
     (λ q s.
-        let (u, v) = and_parts _ _ q in
-        subst (λ o. HasName o n) (some_is _ o s)
-        (in_table a b h t n f (found (is_spelt a b h t) (families_of (length h)) f p) v (rebuilt h (digits a) t (digits b) n r w (empty r u))))
+    let (u, v) = and_parts _ _ q in
+    subst (λ o. HasName o n) (some_is _ o s)
+    (in_table a b h t n f (found (is_spelt a b h t) (families_of (length h)) f p) v (rebuilt h (digits a) t (digits b) n r w (empty r u))))
     (λ q s. cc) e
 
 pub name_read : (n : List ℕ) (o : Op) → read n ≡ Some o → HasName o n
@@ -357,7 +359,7 @@ name_read n o e =
     let z : ℕ × List ℕ = width_at (back w.1) in
     placed (family_of w.0 z.0 (front n) (front w.1)) w.0 z.0 (front n) (front w.1) z.1 n o refl
     (ap (λ x. front n ++ (digits w.0 ++ (front w.1 ++ x))) (width_joined (back w.1))
-        ∙ ap (λ x. front n ++ (digits w.0 ++ x)) (front_back w.1)
-        ∙ ap (λ x. front n ++ x) (width_joined (back n))
-        ∙ front_back n)
+    ∙ ap (λ x. front n ++ (digits w.0 ++ x)) (front_back w.1)
+    ∙ ap (λ x. front n ++ x) (width_joined (back n))
+    ∙ front_back n)
     e

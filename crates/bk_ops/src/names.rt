@@ -5,8 +5,8 @@ ghost use Rattle.bk_ops.specs.Names.{digits, spelled, name_of, HasName};
 ghost use Rattle.bk_ops.specs.Table.{is_op};
 ghost use Rattle.bk_ops.specs.declared.table.Op.{Op};
 
-use crate::table::row_of;
 use crate::index::families;
+use crate::table::row_of;
 use crate::{Family, Memory, Op};
 use std::alloc::Global;
 
