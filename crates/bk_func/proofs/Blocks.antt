@@ -66,7 +66,7 @@ pub kept_place : (from index n to : ℕ) (bs cs : List BlockRecord) → cs ≡ c
 kept_place from index n to bs cs e h =
     subst (λ o. IsSome o)
     (sym (ap (position (λ b. b.id == to)) e
-        ∙ ap (λ k. if nat_lt k (length (change_block from (with_succ index n) bs)) then Some k else None) (same_or_len from index n to bs)
-        ∙ ap (λ m. if nat_lt (position_or_len (λ b. b.id == to) bs) m then Some (position_or_len (λ b. b.id == to) bs) else None)
-        (same_length from index n bs)))
+    ∙ ap (λ k. if nat_lt k (length (change_block from (with_succ index n) bs)) then Some k else None) (same_or_len from index n to bs)
+    ∙ ap (λ m. if nat_lt (position_or_len (λ b. b.id == to) bs) m then Some (position_or_len (λ b. b.id == to) bs) else None)
+    (same_length from index n bs)))
     h

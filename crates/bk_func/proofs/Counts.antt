@@ -8,7 +8,7 @@ pub sum_more : {X : Type 0} (f : X → ℕ) (xs : List X) (i : ℕ) (d : X) → 
     → sum_by f (take (i + 1) xs) ≡ sum_by f (take i xs) + f (get_or xs i d)
 sum_more f xs i d h =
     let e : sum_by f (take (suc i) xs) ≡ sum_by f (take i xs) + sum_by f (get_or xs i d ∷ []) =
-        ap (sum_by f) (take-suc xs i d h) ∙ sum_by-append f (take i xs) (get_or xs i d ∷ [])
+    ap (sum_by f) (take-suc xs i d h) ∙ sum_by-append f (take i xs) (get_or xs i d ∷ [])
     in
     ap (λ j. sum_by f (take j xs)) (add-one i) ∙ e ∙ ap (λ k. sum_by f (take i xs) + k) (zero-add (f (get_or xs i d)))
 

@@ -68,7 +68,7 @@ renamed_value old new v = record v { args = map (renamed old new) v.args }
 abbrev pub renamed_block : ℕ → ℕ → BlockRecord → BlockRecord
 renamed_block old new b = record b {
   control = renamed_control old new b.control;
-  values = map (renamed_value old new) b.values
+  values = map (renamed_value old new) b.values;
 }
 
 -- the function with each use of old replaced by new
@@ -99,7 +99,7 @@ between id from to = record {
   preds = from ∷ [];
   succs = to ∷ [];
   likely = No;
-  values = []
+  values = [];
 }
 
 abbrev pub with_succ : ℕ → ℕ → BlockRecord → BlockRecord
@@ -117,7 +117,7 @@ through id from index to k bs =
 -- the successors has the k-th place of that block among the predecessors
 abbrev pub split : FuncRecord → ℕ → ℕ → FuncRecord
 split f from index = record f {
-  blocks = through (greatest_block f + 1) from index (successor_in (block_of f from) index) (rank_in (block_of f from) index) f.blocks
+  blocks = through (greatest_block f + 1) from index (successor_in (block_of f from) index) (rank_in (block_of f from) index) f.blocks;
 }
 
 -- the block has a successor at this place, and the successor is a block

@@ -25,20 +25,26 @@ fn place(blocks: &[Block], id: u32) -> Option<usize>
 pub fn greatest_value(func: &Func) -> u32
     ensures { result ≡ greatest_value func.now }
 {
-    func.blocks.iter().fold(0, |greatest, block| greatest_in(&block.values, greatest))
+    func.blocks
+        .iter()
+        .fold(0, |greatest, block| greatest_in(&block.values, greatest))
 }
 
 fn greatest_in(values: &[Value], least: u32) -> u32
     ensures { result ≡ fold (λ g v. max g v.id) least values.now }
 {
-    values.iter().fold(least, |greatest, value| greatest.max(value.id))
+    values
+        .iter()
+        .fold(least, |greatest, value| greatest.max(value.id))
 }
 
 /// The greatest number of a block, 0 where there is none.
 pub fn greatest_block(func: &Func) -> u32
     ensures { result ≡ greatest_block func.now }
 {
-    func.blocks.iter().fold(0, |greatest, block| greatest.max(block.id))
+    func.blocks
+        .iter()
+        .fold(0, |greatest, block| greatest.max(block.id))
 }
 
 /// How many argument places and controls name the value, modulo 2^64.
@@ -89,7 +95,12 @@ fn count_values(values: &[Value], id: u32) -> u64
 fn count_value(value: &Value, id: u32) -> u64
     ensures { result ≡ value_uses id value.now % 2 ^ 64 }
 {
-    value.args.as_slice().iter().filter(|arg| **arg == id).count() as u64
+    value
+        .args
+        .as_slice()
+        .iter()
+        .filter(|arg| **arg == id)
+        .count() as u64
 }
 
 /// Puts `new` in place of `old` at each argument and control.
@@ -163,9 +174,7 @@ pub fn add_value(
 ) -> Result<u32, Memory>
     requires there { IsSome (place_of func.old block) }
     requires room { greatest_value func.old < 2 ^ 32 - 1 }
-    ensures ok {
-        OnOk result (func.new ≡ added func.old block (value_of (greatest_value func.old + 1) op ty args.now int aux))
-    }
+    ensures ok { OnOk result (func.new ≡ added func.old block (value_of (greatest_value func.old + 1) op ty args.now int aux)) }
     ensures number { IfOk result (λ id. id ≡ greatest_value func.old + 1) }
     ensures err { OnErr result (func.new ≡ func.old) }
 {
@@ -189,7 +198,9 @@ fn push_value(blocks: &mut [Block], id: u32, value: Value) -> Result<(), AllocEr
     ensures ok { OnOk result (blocks.new ≡ change_block id (with_value value) blocks.old) }
     ensures err { OnErr result (blocks.new ≡ blocks.old) }
 {
-    let Some(place) = place(blocks, id) else { unreachable!() };
+    let Some(place) = place(blocks, id) else {
+        unreachable!()
+    };
     let block = &mut blocks[place];
     push_last(block, value)
 }
@@ -226,14 +237,14 @@ pub fn split_edge(alloc: Global, func: &mut Func, from: u32, index: usize) -> Re
 fn edge(blocks: &[Block], from: u32, index: usize) -> (u32, usize)
     requires there { IsSome (position (λ b. b.id == from) blocks.now) }
     requires within { IfSome (find (λ b. b.id == from) blocks.now) (λ b. index < length b.succs) }
-    requires successor {
-        IsSome (position (λ b. b.id == successor_in (find (λ b. b.id == from) blocks.now) index) blocks.now)
-    }
+    requires successor { IsSome (position (λ b. b.id == successor_in (find (λ b. b.id == from) blocks.now) index) blocks.now) }
     ensures to { result.0 ≡ successor_in (find (λ b. b.id == from) blocks.now) index }
     ensures rank { result.1 ≡ rank_in (find (λ b. b.id == from) blocks.now) index }
     ensures there { IsSome (position (λ b. b.id == result.0) blocks.now) }
 {
-    let Some(place) = place(blocks, from) else { unreachable!() };
+    let Some(place) = place(blocks, from) else {
+        unreachable!()
+    };
     let block = &blocks[place];
     edge_at(block, index)
 }
@@ -244,7 +255,13 @@ fn edge_at(block: &Block, index: usize) -> (u32, usize)
     ensures rank { result.1 ≡ rank_in (Some block.now) index }
 {
     let to = block.succs[index];
-    (to, block.succs[..index].iter().filter(|succ| **succ == to).count())
+    (
+        to,
+        block.succs[..index]
+            .iter()
+            .filter(|succ| **succ == to)
+            .count(),
+    )
 }
 
 /// Makes the edge from `from` to `to`, of this rank, go to the block `id`, and come to `to` from there.
@@ -252,9 +269,7 @@ fn redirect(blocks: &mut [Block], from: u32, index: usize, to: u32, rank: usize,
     requires there { IsSome (position (λ b. b.id == from) blocks.old) }
     requires within { IfSome (find (λ b. b.id == from) blocks.old) (λ b. index < length b.succs) }
     requires successor { IsSome (position (λ b. b.id == to) blocks.old) }
-    ensures {
-        blocks.new ≡ change_block to (with_pred from id rank) (change_block from (with_succ index id) blocks.old)
-    }
+    ensures { blocks.new ≡ change_block to (with_pred from id rank) (change_block from (with_succ index id) blocks.old) }
 {
     set_succ(blocks, from, index, id);
     set_pred(blocks, to, from, rank, id);
@@ -285,7 +300,9 @@ fn set_succ(blocks: &mut [Block], from: u32, index: usize, id: u32)
     requires within { IfSome (find (λ b. b.id == from) blocks.old) (λ b. index < length b.succs) }
     ensures { blocks.new ≡ change_block from (with_succ index id) blocks.old }
 {
-    let Some(place) = place(blocks, from) else { unreachable!() };
+    let Some(place) = place(blocks, from) else {
+        unreachable!()
+    };
     let block = &mut blocks[place];
     put_succ(block, index, id);
 }
@@ -303,7 +320,9 @@ fn set_pred(blocks: &mut [Block], to: u32, from: u32, rank: usize, id: u32)
     requires { IsSome (position (λ b. b.id == to) blocks.old) }
     ensures { blocks.new ≡ change_block to (with_pred from id rank) blocks.old }
 {
-    let Some(place) = place(blocks, to) else { unreachable!() };
+    let Some(place) = place(blocks, to) else {
+        unreachable!()
+    };
     let block = &mut blocks[place];
     put_pred(block, from, rank, id);
 }

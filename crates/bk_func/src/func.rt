@@ -47,13 +47,13 @@ impl Model for Block {
     ghost Value = { BlockRecord };
 
     ghost view = { λ b. record {
-        id = b.id;
-        kind = b.kind;
-        control = b.control;
-        preds = b.preds.items;
-        succs = b.succs.items;
-        likely = b.likely;
-        values = b.values.items
+      id = b.id;
+      kind = b.kind;
+      control = b.control;
+      preds = b.preds.items;
+      succs = b.succs.items;
+      likely = b.likely;
+      values = b.values.items;
     } };
 }
 

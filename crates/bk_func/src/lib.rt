@@ -6,10 +6,14 @@ mod edits;
 mod func;
 mod parts;
 mod placed;
+#[cfg(test)]
+mod tests;
 
 pub use bk_ops::Memory;
 pub use copy::copy_func;
-pub use edits::{add_value, block_place, greatest_block, greatest_value, replace, split_edge, uses};
+pub use edits::{
+    add_value, block_place, greatest_block, greatest_value, replace, split_edge, uses,
+};
 pub use func::{Block, Func, Package, Sig, Value, Var};
 pub use parts::{Aux, Kind, Likely, Loc};
 pub use placed::{Placed, PlacedBlock, Step};

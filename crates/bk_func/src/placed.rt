@@ -7,16 +7,25 @@ use std::marker::Model;
 #[derive(Drop, Debug)]
 pub enum Step {
     /// A slot's word goes to a register.
-    Load { reg: u8, slot: u32 },
+    Load {
+        reg: u8,
+        slot: u32,
+    },
     /// A register's word goes to a slot.
-    Store { reg: u8, slot: u32 },
+    Store {
+        reg: u8,
+        slot: u32,
+    },
     /// The value is computed from registers into a register.
     Do {
         value: u32,
         args: SmallVec<u8, 4>,
         result: Option<u8>,
     },
-    Move { from: Loc, to: Loc },
+    Move {
+        from: Loc,
+        to: Loc,
+    },
 }
 
 /// A block with its values in registers and slots.
@@ -39,11 +48,11 @@ impl Model for PlacedBlock {
     ghost use Rattle.bk_func.specs.Steps.{seen_step};
 
     ghost view = { λ b. record {
-        id = b.id;
-        kind = b.kind;
-        control = b.control;
-        succs = b.succs.items;
-        steps = map seen_step b.steps.items
+      id = b.id;
+      kind = b.kind;
+      control = b.control;
+      succs = b.succs.items;
+      steps = map seen_step b.steps.items;
     } };
 }
 

@@ -14,7 +14,7 @@ struct Case {
 }
 
 macro_rules! case {
-    ($name:literal, $family:expr, $a:literal, $b:literal, $arity:expr, $aux:ident, $result:expr, $commutative:literal, $memory:literal) => {
+    ($name:literal => $family:expr, $a:literal $b:literal, $arity:expr, $aux:ident, $result:expr, $commutative:literal, $memory:literal) => {
         Case {
             name: $name,
             op: Op {
@@ -34,204 +34,24 @@ macro_rules! case {
 #[test]
 fn names_and_rows(rt: HostRuntime) -> Result<(), Fail> {
     let cases = [
-        case!(
-            "Const8",
-            Family::Const,
-            8,
-            0,
-            Some(0),
-            Int,
-            Class::Number(8),
-            false,
-            false
-        ),
-        case!(
-            "Hmul32u",
-            Family::Hmulu,
-            32,
-            0,
-            Some(2),
-            None,
-            Class::Number(32),
-            true,
-            false
-        ),
-        case!(
-            "Lsh16x64",
-            Family::Lsh,
-            16,
-            64,
-            Some(2),
-            None,
-            Class::Number(16),
-            false,
-            false
-        ),
-        case!(
-            "Rsh64Ux8",
-            Family::RshU,
-            64,
-            8,
-            Some(2),
-            None,
-            Class::Number(64),
-            false,
-            false
-        ),
-        case!(
-            "SignExt8to32",
-            Family::SignExt,
-            8,
-            32,
-            Some(1),
-            None,
-            Class::Number(32),
-            false,
-            false
-        ),
-        case!(
-            "Trunc64to16",
-            Family::Trunc,
-            64,
-            16,
-            Some(1),
-            None,
-            Class::Number(16),
-            false,
-            false
-        ),
-        case!(
-            "Leq32U",
-            Family::LeqU,
-            32,
-            0,
-            Some(2),
-            None,
-            Class::Bool,
-            false,
-            false
-        ),
-        case!(
-            "EqB",
-            Family::EqB,
-            0,
-            0,
-            Some(2),
-            None,
-            Class::Bool,
-            false,
-            false
-        ),
-        case!(
-            "OrB",
-            Family::OrB,
-            0,
-            0,
-            Some(2),
-            None,
-            Class::Bool,
-            true,
-            false
-        ),
-        case!(
-            "CvtBoolToUint8",
-            Family::CvtBoolToUint8,
-            8,
-            0,
-            Some(1),
-            None,
-            Class::Number(8),
-            false,
-            false
-        ),
-        case!(
-            "Int64Hi",
-            Family::Int64Hi,
-            64,
-            0,
-            Some(1),
-            None,
-            Class::Number(32),
-            false,
-            false
-        ),
-        case!(
-            "Store",
-            Family::Store,
-            0,
-            0,
-            Some(3),
-            Ty,
-            Class::Mem,
-            false,
-            true
-        ),
-        case!(
-            "StaticLECall",
-            Family::StaticLECall,
-            0,
-            0,
-            None,
-            Name,
-            Class::Tuple,
-            false,
-            true
-        ),
-        case!(
-            "ARMRSB0",
-            Family::Arm(ArmOp::Rsb0),
-            0,
-            0,
-            Some(1),
-            None,
-            Class::Word,
-            false,
-            false
-        ),
-        case!(
-            "ARMSTORE2",
-            Family::Arm(ArmOp::Store),
-            2,
-            0,
-            Some(3),
-            Int,
-            Class::Mem,
-            false,
-            true
-        ),
-        case!(
-            "RVLOAD8",
-            Family::Rv(RvOp::Load),
-            8,
-            0,
-            Some(2),
-            Int,
-            Class::Word,
-            false,
-            true
-        ),
-        case!(
-            "RVXOR",
-            Family::Rv(RvOp::Xor),
-            0,
-            0,
-            Some(2),
-            None,
-            Class::Word,
-            true,
-            false
-        ),
-        case!(
-            "TRAP",
-            Family::Trap,
-            0,
-            0,
-            Some(1),
-            Int,
-            Class::Mem,
-            false,
-            true
-        ),
+        case!("Const8" => Family::Const, 8 0, Some(0), Int, Class::Number(8), false, false),
+        case!("Hmul32u" => Family::Hmulu, 32 0, Some(2), None, Class::Number(32), true, false),
+        case!("Lsh16x64" => Family::Lsh, 16 64, Some(2), None, Class::Number(16), false, false),
+        case!("Rsh64Ux8" => Family::RshU, 64 8, Some(2), None, Class::Number(64), false, false),
+        case!("SignExt8to32" => Family::SignExt, 8 32, Some(1), None, Class::Number(32), false, false),
+        case!("Trunc64to16" => Family::Trunc, 64 16, Some(1), None, Class::Number(16), false, false),
+        case!("Leq32U" => Family::LeqU, 32 0, Some(2), None, Class::Bool, false, false),
+        case!("EqB" => Family::EqB, 0 0, Some(2), None, Class::Bool, false, false),
+        case!("OrB" => Family::OrB, 0 0, Some(2), None, Class::Bool, true, false),
+        case!("CvtBoolToUint8" => Family::CvtBoolToUint8, 8 0, Some(1), None, Class::Number(8), false, false),
+        case!("Int64Hi" => Family::Int64Hi, 64 0, Some(1), None, Class::Number(32), false, false),
+        case!("Store" => Family::Store, 0 0, Some(3), Ty, Class::Mem, false, true),
+        case!("StaticLECall" => Family::StaticLECall, 0 0, None, Name, Class::Tuple, false, true),
+        case!("ARMRSB0" => Family::Arm(ArmOp::Rsb0), 0 0, Some(1), None, Class::Word, false, false),
+        case!("ARMSTORE2" => Family::Arm(ArmOp::Store), 2 0, Some(3), Int, Class::Mem, false, true),
+        case!("RVLOAD8" => Family::Rv(RvOp::Load), 8 0, Some(2), Int, Class::Word, false, true),
+        case!("RVXOR" => Family::Rv(RvOp::Xor), 0 0, Some(2), None, Class::Word, true, false),
+        case!("TRAP" => Family::Trap, 0 0, Some(1), Int, Class::Mem, false, true),
     ];
     for case in &cases {
         assert_eq!(rt;

@@ -12,13 +12,13 @@ pub returns-clause-to : goal.returns-clause-to
 returns-clause-to c =
     c.edge_at.ensures.to
     ∙ sym (ap (λ o. successor_in o c.args.index)
-        (found_at c.args.from c.args.blocks.now c.in-Some.place _ (sym c.place.ensures ∙ c.in-Some.is) c.index-blocks-place.is))
+    (found_at c.args.from c.args.blocks.now c.in-Some.place _ (sym c.place.ensures ∙ c.in-Some.is) c.index-blocks-place.is))
 
 pub returns-clause-rank : goal.returns-clause-rank
 returns-clause-rank c =
     c.edge_at.ensures.rank
     ∙ sym (ap (λ o. rank_in o c.args.index)
-        (found_at c.args.from c.args.blocks.now c.in-Some.place _ (sym c.place.ensures ∙ c.in-Some.is) c.index-blocks-place.is))
+    (found_at c.args.from c.args.blocks.now c.in-Some.place _ (sym c.place.ensures ∙ c.in-Some.is) c.index-blocks-place.is))
 
 pub returns-clause-there : goal.returns-clause-there
 returns-clause-there c =
