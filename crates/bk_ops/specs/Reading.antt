@@ -1,5 +1,5 @@
 -- How a name is taken apart.
-use Rattle.std.specs.Prelude.{ℕ, Bool, true, false, ◌==◌, ◌&&◌, ◌||◌, if◌then◌else◌, List, [], ◌∷◌, ◌++◌, length, take, drop, Option, Some, None, bytes_eq, nat_le, position}
+use Rattle.std.specs.Prelude.{ℕ, Bool, ◌==◌, ◌&&◌, if◌then◌else◌, List, [], ◌∷◌, length, take, drop, Option, Some, None, bytes_eq, nat_le, position}
 use Rattle.std.specs.List.{find}
 use Rattle.bk_ops.specs.declared.family.Family.{Family}
 use Rattle.bk_ops.specs.declared.family.Family.TheVariants.{Const, ConstBool, ConstNil, Add, Sub, Mul, And, Or, Xor, Neg, Com, Div, Divu, Mod, Modu, Hmul, Hmulu, Lsh, Rsh, RshU, Eq, Neq, Less, LessU, Leq, LeqU, EqB, NeqB, AndB, OrB, Not, EqPtr, NeqPtr, IsNonNil, IsInBounds, IsSliceInBounds, SignExt, ZeroExt, Trunc, CvtBoolToUint8, Signmask, Zeromask, Ctz32, BitLen32, RotateLeft, CondSelect, AddPtr, SubPtr, OffPtr, Int64Make, Int64Hi, Int64Lo, AddHi32, SubHi32, Phi, Copy, Arg, InitMem, Sp, Sb, Addr, Load, Store, Zero, Move, NilCheck, PanicBounds, StaticLECall, SelectN, MakeResult, ArgWord, ResWord, OutWord, RetWord, Call, Trap, Arm, Rv}
@@ -67,19 +67,19 @@ width_at [] = (0, [])
 width_at (c ∷ []) = one_digit c []
 width_at (c ∷ d ∷ n) = two_digits c d n
 
-unfoldable pub is_spelt : Family → List ℕ → List ℕ → Bool
-is_spelt f h t = bytes_eq (row f 0 0).head h && bytes_eq (row f 0 0).tail t
+unfoldable pub is_spelt : ℕ → ℕ → List ℕ → List ℕ → Family → Bool
+is_spelt a b h t f = bytes_eq (row f a b).head h && bytes_eq (row f a b).tail t
 
 -- the family with this head and this tail
-unfoldable pub family_of : List ℕ → List ℕ → Option Family
-family_of h t = find (λ f. is_spelt f h t) (families_of (length h))
+unfoldable pub family_of : ℕ → ℕ → List ℕ → List ℕ → Option Family
+family_of a b h t = find (is_spelt a b h t) (families_of (length h))
 
 abbrev pub op_at : Option Family → ℕ → ℕ → List ℕ → Option Op
 op_at None a b n = None
 op_at (Some f) a b n = if length n == 0 && is_op f a b then Some (record { family = f; a = a; b = b }) else None
 
 abbrev pub with_second : List ℕ → ℕ → List ℕ → ℕ × List ℕ → Option Op
-with_second h a t w = op_at (family_of h t) a w.0 w.1
+with_second h a t w = op_at (family_of a w.0 h t) a w.0 w.1
 
 abbrev pub with_first : List ℕ → ℕ × List ℕ → Option Op
 with_first h w = with_second h w.0 (front w.1) (width_at (back w.1))

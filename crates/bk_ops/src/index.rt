@@ -4,12 +4,7 @@ ghost use Rattle.bk_ops.specs.Reading.{families_of};
 
 use crate::{ArmOp, Family, RvOp};
 
-static LENGTH_2: [Family; 4] = [
-    Family::Or,
-    Family::Eq,
-    Family::Sp,
-    Family::Sb,
-];
+static LENGTH_2: [Family; 4] = [Family::Or, Family::Eq, Family::Sp, Family::Sb];
 
 static LENGTH_3: [Family; 26] = [
     Family::Add,
@@ -177,10 +172,7 @@ static LENGTH_8: [Family; 19] = [
     Family::Rv(RvOp::StoreB),
 ];
 
-static LENGTH_9: [Family; 2] = [
-    Family::ConstBool,
-    Family::Arm(ArmOp::StoreB),
-];
+static LENGTH_9: [Family; 2] = [Family::ConstBool, Family::Arm(ArmOp::StoreB)];
 
 static LENGTH_10: [Family; 4] = [
     Family::IsInBounds,
@@ -189,21 +181,13 @@ static LENGTH_10: [Family; 4] = [
     Family::MakeResult,
 ];
 
-static LENGTH_11: [Family; 1] = [
-    Family::PanicBounds,
-];
+static LENGTH_11: [Family; 1] = [Family::PanicBounds];
 
-static LENGTH_12: [Family; 1] = [
-    Family::StaticLECall,
-];
+static LENGTH_12: [Family; 1] = [Family::StaticLECall];
 
-static LENGTH_13: [Family; 1] = [
-    Family::CvtBoolToUint8,
-];
+static LENGTH_13: [Family; 1] = [Family::CvtBoolToUint8];
 
-static LENGTH_15: [Family; 1] = [
-    Family::IsSliceInBounds,
-];
+static LENGTH_15: [Family; 1] = [Family::IsSliceInBounds];
 
 /// The families whose names begin with a head of this length.
 #[tactic(auto, unfolding(crate::specs::Reading::families_of))]

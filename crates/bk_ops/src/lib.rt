@@ -5,14 +5,15 @@ mod family;
 mod index;
 mod names;
 mod table;
+#[cfg(test)]
+mod tests;
 mod types;
 
 pub use family::{ArmOp, Family, RvOp};
-pub use names::op_name;
-pub use table::{op_info, AuxKind, Class, Op, OpInfo};
-pub use types::{code, size, width, Target, Ty};
-
+pub use names::{op_name, op_of_name};
 use std::alloc::AllocError;
+pub use table::{AuxKind, Class, Op, OpInfo, op_info};
+pub use types::{Target, Ty, code, size, width};
 
 /// Want of memory.
 #[derive(Clone, Copy, PartialEq, Eq, Debug)]

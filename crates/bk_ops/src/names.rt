@@ -1,11 +1,12 @@
 // The names of ops.
-ghost use Rattle.std.specs.Prelude.{◌≡◌, ◌<◌, length, position, IfSome, IfOk, string_bytes};
+ghost use Rattle.std.specs.Prelude.{◌≡◌, ◌↔◌, Some, ◌<◌, length, position, IfSome, IfOk, string_bytes};
 ghost use Rattle.bk_ops.specs.Reading.{begins_width, front, back, width_at, is_spelt, family_of, read};
-ghost use Rattle.bk_ops.specs.Names.{digits, spelled, name_of};
+ghost use Rattle.bk_ops.specs.Names.{digits, spelled, name_of, HasName};
 ghost use Rattle.bk_ops.specs.Table.{is_op};
+ghost use Rattle.bk_ops.specs.declared.table.Op.{Op};
 
-use crate::table::row_of;
 use crate::index::families;
+use crate::table::row_of;
 use crate::{Family, Memory, Op};
 use std::alloc::Global;
 
@@ -90,23 +91,22 @@ fn split_width(text: &[u8]) -> (u8, &[u8])
 
 /// Whether the family's names have this head and this tail.
 #[tactic(auto, unfolding(crate::specs::Reading::is_spelt))]
-fn is_spelt(family: Family, head: &[u8], tail: &[u8]) -> bool
-    ensures { result ≡ is_spelt family head.now tail.now }
+fn is_spelt(op: Op, head: &[u8], tail: &[u8]) -> bool
+    ensures { result ≡ is_spelt op.a op.b head.now tail.now op.family }
 {
-    let row = row_of(Op {
-        family,
-        a: 0,
-        b: 0,
-    });
+    let row = row_of(op);
     row.head.as_bytes() == head && row.tail.as_bytes() == tail
 }
 
 /// The family whose names have this head and this tail.
 #[tactic(auto, unfolding(crate::specs::Reading::family_of))]
-fn family_of(head: &[u8], tail: &[u8]) -> Option<Family>
-    ensures { result ≡ family_of head.now tail.now }
+fn family_of(a: u8, b: u8, head: &[u8], tail: &[u8]) -> Option<Family>
+    ensures { result ≡ family_of a b head.now tail.now }
 {
-    families(head.len()).iter().copied().find(|family| is_spelt(*family, head, tail))
+    families(head.len()).iter().copied().find(|family| {
+        let family = *family;
+        is_spelt(Op { family, a, b }, head, tail)
+    })
 }
 
 #[tactic(auto, unfolding(crate::specs::Reading::read, crate::specs::Table::is_op))]
@@ -117,14 +117,18 @@ fn read(name: &[u8]) -> Option<Op>
     let (a, rest) = split_width(rest);
     let (tail, rest) = split_letters(rest);
     let (b, rest) = split_width(rest);
-    let op = Op {
-        family: family_of(head, tail)?,
-        a,
-        b,
-    };
+    let family = family_of(a, b, head, tail)?;
+    let op = Op { family, a, b };
     if rest.is_empty() && row_of(op).widths.allow(a, b) {
         Some(op)
     } else {
         None
     }
+}
+
+/// The op of this name, None exactly for a name that no op has.
+pub fn op_of_name(name: &[u8]) -> Option<Op>
+    ensures { (o : Op) → (result ≡ Some o) ↔ HasName o name.now }
+{
+    read(name)
 }

@@ -1,0 +1,85 @@
+use super::*;
+use bk_ops::{Family, Op, Ty};
+use smallvec::SmallVec;
+use std::alloc::{AllocError, Global};
+use std::test::Fail;
+
+const ADD: Op = Op {
+    family: Family::Add,
+    a: 64,
+    b: 0,
+};
+
+fn value(alloc: Global, id: u32, args: &[u32]) -> Result<Value, AllocError> {
+    Ok(Value {
+        id,
+        op: ADD,
+        ty: Ty::Int64,
+        args: SmallVec::from_slice(alloc, args)?,
+        int: 0,
+        aux: Aux::Nothing,
+    })
+}
+
+// b1 goes to b2 by both of its edges, and v3 of b2 is the sum of v2 and v2.
+fn diamond(alloc: Global) -> Result<Func, AllocError> {
+    let first = Block {
+        id: 1,
+        kind: Kind::If,
+        control: Some(2),
+        preds: Vec::new(alloc),
+        succs: vec![in alloc; 2, 2]?,
+        likely: Likely::No,
+        values: vec![in alloc; value(alloc, 2, &[])?]?,
+    };
+    let second = Block {
+        id: 2,
+        kind: Kind::Ret,
+        control: Some(3),
+        preds: vec![in alloc; 1, 1]?,
+        succs: Vec::new(alloc),
+        likely: Likely::No,
+        values: vec![in alloc; value(alloc, 3, &[2, 2])?]?,
+    };
+    Ok(Func {
+        name: 0,
+        sig: Sig {
+            args: Vec::new(alloc),
+            results: Vec::new(alloc),
+        },
+        blocks: vec![in alloc; first, second]?,
+        given: 2,
+    })
+}
+
+#[test]
+fn uses_are_counted_and_replaced(rt: HostRuntime) -> Result<(), Fail> {
+    let mut func = diamond(rt.alloc())?;
+    assert_eq!(rt; uses(&func, 2), 3);
+    replace(&mut func, 2, 7);
+    assert_eq!(rt; (uses(&func, 2), uses(&func, 7)), (0, 3));
+    let copy = copy_func(rt.alloc(), &func);
+    assert!(rt; matches!(&copy, Ok(copy) if uses(copy, 7) == 3 && copy.given == 2));
+    Ok(())
+}
+
+#[test]
+fn values_are_added(rt: HostRuntime) -> Result<(), Fail> {
+    let mut func = diamond(rt.alloc())?;
+    let there = matches!(block_place(&func, 2), Some(_));
+    let room = greatest_value(&func) < u32::MAX;
+    assert!(rt; there && room);
+    let id = add_value(
+        rt.alloc(),
+        &mut func,
+        2,
+        ADD,
+        Ty::Int64,
+        &[3, 2],
+        0,
+        Aux::Nothing,
+    );
+    assert_eq!(rt; id, Ok(4));
+    assert_eq!(rt; (greatest_value(&func), uses(&func, 3)), (4, 2));
+    Ok(())
+}
