@@ -1,0 +1,110 @@
+// What the places of an op take and what it gives.
+use bk_func::{Aux, Value};
+use bk_ops::{Class, Family, Op, Target, Ty, op_info, width};
+
+/// What a place of an op takes.
+#[derive(Clone, Copy, PartialEq, Eq)]
+pub(crate) enum Slot {
+    /// A number of so many bits.
+    Bits(u8),
+    /// A machine word.
+    Word,
+    Bool,
+    Mem,
+    /// What the value itself has.
+    Same,
+    /// What the value stores.
+    Stored,
+    /// The base of the variables.
+    Base,
+    /// A call.
+    Call,
+    /// A number or a truth value of any width.
+    Any,
+}
+
+/// What the op takes at this place, where the op alone says it.
+pub(crate) fn slot_of(op: Op, index: usize) -> Slot {
+    match op.family {
+        Family::Lsh | Family::Rsh | Family::RshU => at(index, Slot::Bits(op.a), Slot::Bits(op.b)),
+        Family::RotateLeft => at(index, Slot::Bits(op.a), Slot::Word),
+        Family::CondSelect if index == 2 => Slot::Bool,
+        Family::CondSelect | Family::Phi | Family::Copy => Slot::Same,
+        Family::EqB
+        | Family::NeqB
+        | Family::AndB
+        | Family::OrB
+        | Family::Not
+        | Family::CvtBoolToUint8 => Slot::Bool,
+        Family::EqPtr
+        | Family::NeqPtr
+        | Family::IsNonNil
+        | Family::IsInBounds
+        | Family::IsSliceInBounds => Slot::Word,
+        Family::AddPtr | Family::SubPtr | Family::OffPtr => Slot::Word,
+        Family::Signmask | Family::Zeromask | Family::Ctz32 | Family::BitLen32 => Slot::Bits(32),
+        Family::Int64Make | Family::AddHi32 | Family::SubHi32 => Slot::Bits(32),
+        Family::Int64Hi | Family::Int64Lo => Slot::Bits(64),
+        Family::Addr => Slot::Base,
+        Family::SelectN | Family::ResWord => Slot::Call,
+        Family::Store if index == 1 => Slot::Stored,
+        Family::OutWord | Family::RetWord if index == 0 => Slot::Any,
+        _ => other_slot(op, index),
+    }
+}
+
+fn at(index: usize, first: Slot, second: Slot) -> Slot {
+    if index == 0 { first } else { second }
+}
+
+/// The ops that take memory last and else words, and those of one width.
+fn other_slot(op: Op, index: usize) -> Slot {
+    let info = op_info(op);
+    match info.arity {
+        Some(arity) if info.memory => {
+            if index + 1 == arity as usize {
+                Slot::Mem
+            } else {
+                Slot::Word
+            }
+        }
+        _ => match op.family {
+            Family::Arm(_) | Family::Rv(_) => Slot::Word,
+            _ => Slot::Bits(op.a),
+        },
+    }
+}
+
+/// Whether values of the type are numbers or truth values, which stand in machine words.
+pub(crate) fn is_data(ty: Ty, target: Target) -> bool {
+    width(ty, target) != 0
+}
+
+/// The bits of a machine word.
+pub(crate) fn word_width(target: Target) -> u32 {
+    width(Ty::Uintptr, target)
+}
+
+/// Whether the op is one that gives memory, a state that later values may name. A copy is none, and the
+/// collected results of a function are none.
+pub(crate) fn gives_state(value: &Value) -> bool {
+    match value.op.family {
+        Family::Copy | Family::MakeResult => false,
+        Family::StaticLECall => true,
+        _ => value.ty == Ty::Mem,
+    }
+}
+
+/// Whether some name has the op.
+pub(crate) fn is_op(op: Op) -> bool {
+    let info = op_info(op);
+    info.arity.is_some() || info.result != Class::Void
+}
+
+/// The type that a store writes.
+pub(crate) fn stored_ty(aux: Aux) -> Option<Ty> {
+    match aux {
+        Aux::Ty(ty) => Some(ty),
+        _ => None,
+    }
+}

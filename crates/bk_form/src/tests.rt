@@ -1,0 +1,6 @@
+use super::*;
+
+#[test]
+fn empty(rt: HostRuntime) {
+    assert!(rt; true);
+}
