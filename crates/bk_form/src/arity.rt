@@ -1,14 +1,14 @@
 // Counts of arguments.
 use crate::Place;
-use crate::names::Names;
-use bk_func::{Aux, Block, Func, Value};
+use crate::names::Scope;
+use bk_func::{Block, Func, Value};
 use bk_ops::{Family, op_info};
 
 /// The first value whose count of arguments is not that of its op.
-pub(crate) fn first_fault(func: &Func, names: &Names) -> Option<Place> {
+pub(crate) fn first_fault(func: &Func, scope: &Scope) -> Option<Place> {
     for block in &func.blocks {
         for value in &block.values {
-            if !has_arity(value, block, func, names) {
+            if !has_arity(value, block, scope) {
                 return Some(Place::Value(value.id));
             }
         }
@@ -16,26 +16,20 @@ pub(crate) fn first_fault(func: &Func, names: &Names) -> Option<Place> {
     None
 }
 
-fn has_arity(value: &Value, block: &Block, func: &Func, names: &Names) -> bool {
+/// A phi has an argument for each predecessor, a call and the results of a function have those of the
+/// signature and memory, any other op as many as its row says.
+fn has_arity(value: &Value, block: &Block, scope: &Scope) -> bool {
     let count = value.args.len();
     match value.op.family {
         Family::Phi => count == block.preds.len(),
-        Family::MakeResult => count == func.sig.results.len() + 1,
-        Family::StaticLECall => takes(value.aux, count, names),
+        Family::MakeResult => count == scope.own.results.len() + 1,
+        Family::StaticLECall => match scope.callee_of(value.aux) {
+            Some(callee) => count == callee.args.len() + 1,
+            None => false,
+        },
         _ => match op_info(value.op).arity {
             Some(arity) => count == arity as usize,
             None => true,
         },
-    }
-}
-
-/// Whether a call takes its callee's arguments and memory.
-fn takes(aux: Aux, count: usize, names: &Names) -> bool {
-    match aux {
-        Aux::Sym(symbol) => match names.callee(symbol) {
-            Some(callee) => count == callee.args.len() + 1,
-            None => false,
-        },
-        _ => false,
     }
 }

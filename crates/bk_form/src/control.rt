@@ -1,4 +1,7 @@
 // Kinds of blocks, and edges.
+ghost use Rattle.std.specs.Prelude.{◌↔◌, IsTrue};
+ghost use Rattle.bk_form.specs.Parts.{FitsKind};
+
 use crate::Place;
 use bk_func::{Block, Func, Kind};
 use std::alloc::{AllocError, Global};
@@ -30,7 +33,9 @@ pub(crate) fn first_fault(alloc: Global, func: &Func) -> Result<Option<Place>, A
 }
 
 /// Whether the successors and the control are those of the block's kind.
-fn fits_kind(block: &Block) -> bool {
+fn fits_kind(block: &Block) -> bool
+    ensures { IsTrue result ↔ FitsKind block.now.kind block.now.succs block.now.control }
+{
     match block.kind {
         Kind::Plain => block.succs.len() == 1 && block.control.is_none(),
         Kind::If => block.succs.len() == 2 && block.control.is_some(),

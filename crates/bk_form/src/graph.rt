@@ -1,7 +1,8 @@
 // A function with places in text order for the numbers of its blocks and values.
 use crate::Place;
 use crate::numbers::Numbers;
-use bk_func::{Block, Func, Value};
+use bk_func::{Aux, Block, Func, Kind, Value};
+use bk_ops::{Op, Ty};
 use smallvec::SmallVec;
 use std::alloc::{AllocError, Global};
 
@@ -10,16 +11,21 @@ pub(crate) const NOWHERE: usize = usize::MAX;
 
 /// A value with the place of its block and those of its arguments.
 #[derive(Drop)]
-pub(crate) struct Node<'a> {
-    pub(crate) value: &'a Value,
+pub(crate) struct Node {
+    pub(crate) id: u32,
+    pub(crate) op: Op,
+    pub(crate) ty: Ty,
+    pub(crate) int: i64,
+    pub(crate) aux: Aux,
     pub(crate) block: usize,
     pub(crate) args: SmallVec<usize, 4>,
 }
 
 /// A block with the places of its values and of its neighbours.
 #[derive(Drop)]
-pub(crate) struct Part<'a> {
-    pub(crate) block: &'a Block,
+pub(crate) struct Part {
+    pub(crate) id: u32,
+    pub(crate) kind: Kind,
     /// The place of its first value, and the place after its last.
     pub(crate) start: usize,
     pub(crate) end: usize,
@@ -30,51 +36,60 @@ pub(crate) struct Part<'a> {
 
 /// A function by places: blocks and values in text order.
 #[derive(Drop)]
-pub(crate) struct Graph<'a> {
-    pub(crate) parts: Vec<Part<'a>>,
-    pub(crate) nodes: Vec<Node<'a>>,
+pub(crate) struct Graph {
+    pub(crate) parts: Vec<Part>,
+    pub(crate) nodes: Vec<Node>,
 }
 
-impl<'a> Graph<'a> {
-    pub(crate) fn new(
-        alloc: Global,
-        func: &'a Func,
-        numbers: &Numbers,
-    ) -> Result<Graph<'a>, AllocError> {
+impl Graph {
+    pub(crate) fn new(alloc: Global, func: &Func, numbers: &Numbers) -> Result<Graph, AllocError> {
         let mut parts = Vec::new(alloc);
         let mut nodes = Vec::new(alloc);
         for (place, block) in func.blocks.iter().enumerate() {
             let start = nodes.len();
             for value in &block.values {
-                let args = argument_places(alloc, value, numbers)?;
-                nodes.push(Node {
-                    value,
-                    block: place,
-                    args,
-                })?;
+                nodes.push(node_of(alloc, value, place, numbers)?)?;
             }
             parts.push(part_of(alloc, block, numbers, start, nodes.len())?)?;
         }
         Ok(Graph { parts, nodes })
     }
 
-    pub(crate) fn node(&self, place: usize) -> Option<&Node<'a>> {
+    pub(crate) fn node(&self, place: usize) -> Option<&Node> {
         self.nodes.get(place)
     }
 
     /// The place of the value, for a refusal.
     pub(crate) fn value_place(&self, place: usize) -> Option<Place> {
-        Some(Place::Value(self.nodes.get(place)?.value.id))
+        Some(Place::Value(self.nodes.get(place)?.id))
     }
 }
 
-fn part_of<'a>(
+fn node_of(
     alloc: Global,
-    block: &'a Block,
+    value: &Value,
+    block: usize,
+    numbers: &Numbers,
+) -> Result<Node, AllocError> {
+    let args = argument_places(alloc, value, numbers)?;
+    Ok(Node {
+        id: value.id,
+        op: value.op,
+        ty: value.ty,
+        int: value.int,
+        aux: value.aux,
+        block,
+        args,
+    })
+}
+
+fn part_of(
+    alloc: Global,
+    block: &Block,
     numbers: &Numbers,
     start: usize,
     end: usize,
-) -> Result<Part<'a>, AllocError> {
+) -> Result<Part, AllocError> {
     let control = match block.control {
         Some(id) => Some(numbers.value(id).unwrap_or(NOWHERE)),
         None => None,
@@ -82,7 +97,8 @@ fn part_of<'a>(
     let preds = block_places(alloc, &block.preds, numbers)?;
     let succs = block_places(alloc, &block.succs, numbers)?;
     Ok(Part {
-        block,
+        id: block.id,
+        kind: block.kind,
         start,
         end,
         control,

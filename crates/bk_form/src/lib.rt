@@ -18,7 +18,7 @@ mod uses;
 mod width;
 
 use crate::graph::Graph;
-use crate::names::Names;
+use crate::names::{Callee, Names, Scope};
 use crate::numbers::Numbers;
 use bk_func::{Func, Package};
 use bk_ops::Target;
@@ -77,23 +77,25 @@ pub fn check_form(
     refuse(FormKind::Control, control::first_fault(alloc, func)?)?;
     let names = Names::new(alloc, pkg)?;
     let numbers = Numbers::new(alloc, func)?;
+    let own = Callee {
+        args: &func.sig.args,
+        results: &func.sig.results,
+    };
+    let scope = Scope {
+        pkg,
+        names: &names,
+        own,
+        target,
+    };
     refuse(
         FormKind::Missing,
-        missing::first_fault(func, &names, &numbers),
+        missing::first_fault(func, &scope, &numbers),
     )?;
-    refuse(FormKind::Arity, arity::first_fault(func, &names))?;
+    refuse(FormKind::Arity, arity::first_fault(func, &scope))?;
     let graph = Graph::new(alloc, func, &numbers)?;
-    check_parts(&graph, &names, func, target)?;
+    refuse(FormKind::Ty, types::first_fault(&graph, &scope))?;
+    refuse(FormKind::Width, width::first_fault(&graph, &scope))?;
     check_walks(alloc, &graph)
-}
-
-/// The kinds that look at one value, its arguments and its names.
-fn check_parts(graph: &Graph, names: &Names, func: &Func, target: Target) -> Result<(), FormError> {
-    refuse(FormKind::Ty, types::first_fault(graph, names, func, target))?;
-    refuse(
-        FormKind::Width,
-        width::first_fault(graph, names, func, target),
-    )
 }
 
 /// The kinds that look at walks through the blocks, and at the order inside a block.

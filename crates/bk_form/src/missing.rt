@@ -1,6 +1,6 @@
 // Numbers, symbols and argument places that name what they should.
 use crate::Place;
-use crate::names::Names;
+use crate::names::Scope;
 use crate::numbers::Numbers;
 use bk_func::{Aux, Block, Func, Value};
 use bk_ops::{ArmOp, Family, RvOp};
@@ -15,13 +15,13 @@ enum Symbol {
 }
 
 /// The first block or value whose number is not its own, or that names nothing or two things.
-pub(crate) fn first_fault(func: &Func, names: &Names, numbers: &Numbers) -> Option<Place> {
+pub(crate) fn first_fault(func: &Func, scope: &Scope, numbers: &Numbers) -> Option<Place> {
     for block in &func.blocks {
         if !block_names(block, numbers) {
             return Some(Place::Block(block.id));
         }
         for value in &block.values {
-            if !value_names(value, func, names, numbers) {
+            if !value_names(value, scope, numbers) {
                 return Some(Place::Value(value.id));
             }
         }
@@ -45,24 +45,24 @@ fn block_names(block: &Block, numbers: &Numbers) -> bool {
         }
 }
 
-fn value_names(value: &Value, func: &Func, names: &Names, numbers: &Numbers) -> bool {
+fn value_names(value: &Value, scope: &Scope, numbers: &Numbers) -> bool {
     numbers.value(value.id).is_some()
         && value
             .args
             .as_slice()
             .iter()
             .all(|arg| numbers.value(*arg).is_some())
-        && aux_names(value, func, names)
+        && aux_names(value, scope)
 }
 
 /// Whether the value has a symbol or the place of an argument exactly where its op has one, and it is one
 /// of the kind that the op needs.
-fn aux_names(value: &Value, func: &Func, names: &Names) -> bool {
+fn aux_names(value: &Value, scope: &Scope) -> bool {
     match (symbol_of(value.op.family), value.aux) {
         (Symbol::Nothing, Aux::Nothing | Aux::Ty(_)) => true,
-        (Symbol::Func, Aux::Sym(symbol)) => names.callee(symbol).is_some(),
-        (Symbol::Var, Aux::Sym(symbol)) => names.is_var(symbol),
-        (Symbol::Arg, Aux::Arg(place)) => (place as usize) < func.sig.args.len(),
+        (Symbol::Func, Aux::Sym(symbol)) => scope.callee(symbol).is_some(),
+        (Symbol::Var, Aux::Sym(symbol)) => scope.names.is_var(symbol),
+        (Symbol::Arg, Aux::Arg(place)) => (place as usize) < scope.own.args.len(),
         _ => false,
     }
 }

@@ -1,6 +1,6 @@
 // What the symbols of a package name.
-use bk_func::{Package, Sig};
-use bk_ops::Ty;
+use bk_func::{Aux, Package};
+use bk_ops::{Target, Ty};
 use std::alloc::{AllocError, Global};
 
 /// The symbol of `runtime.panicdivide`, a function without arguments and results.
@@ -9,9 +9,10 @@ pub(crate) const PANIC_DIVIDE: u32 = 4_294_967_294;
 pub(crate) const PANIC_SHIFT: u32 = 4_294_967_295;
 
 #[derive(Clone, Copy)]
-enum Named<'a> {
+enum Named {
     Nothing,
-    Func(&'a Sig),
+    /// The function at this place.
+    Func(usize),
     Var,
 }
 
@@ -24,19 +25,19 @@ pub(crate) struct Callee<'a> {
 
 /// What each name of a package names, the name's number being the index.
 #[derive(Drop)]
-pub(crate) struct Names<'a> {
-    named: Vec<Named<'a>>,
+pub(crate) struct Names {
+    named: Vec<Named>,
 }
 
-impl<'a> Names<'a> {
-    pub(crate) fn new(alloc: Global, pkg: &'a Package) -> Result<Names<'a>, AllocError> {
+impl Names {
+    pub(crate) fn new(alloc: Global, pkg: &Package) -> Result<Names, AllocError> {
         let mut named = Vec::with_capacity(alloc, pkg.names.len())?;
         for _ in 0..pkg.names.len() {
             named.push(Named::Nothing)?;
         }
-        for func in &pkg.funcs {
+        for (index, func) in pkg.funcs.iter().enumerate() {
             if let Some(place) = named.get_mut(func.name as usize) {
-                *place = Named::Func(&func.sig);
+                *place = Named::Func(index);
             }
         }
         for var in &pkg.vars {
@@ -51,6 +52,26 @@ impl<'a> Names<'a> {
         matches!(self.named.get(symbol as usize), Some(Named::Var))
     }
 
+    /// The function with this name.
+    fn func(&self, symbol: u32) -> Option<usize> {
+        match self.named.get(symbol as usize) {
+            Some(Named::Func(index)) => Some(*index),
+            _ => None,
+        }
+    }
+}
+
+/// What the numbers and names of a function are measured against.
+#[derive(Clone, Copy)]
+pub(crate) struct Scope<'a> {
+    pub(crate) pkg: &'a Package,
+    pub(crate) names: &'a Names,
+    /// The types of the function's own arguments and results.
+    pub(crate) own: Callee<'a>,
+    pub(crate) target: Target,
+}
+
+impl<'a> Scope<'a> {
     /// The types of the function with this name; the panics have none.
     pub(crate) fn callee(&self, symbol: u32) -> Option<Callee<'a>> {
         if symbol == PANIC_DIVIDE || symbol == PANIC_SHIFT {
@@ -59,11 +80,18 @@ impl<'a> Names<'a> {
                 results: &[],
             });
         }
-        match self.named.get(symbol as usize) {
-            Some(Named::Func(sig)) => Some(Callee {
-                args: &sig.args,
-                results: &sig.results,
-            }),
+        let pkg = self.pkg;
+        let func = pkg.funcs.get(self.names.func(symbol)?)?;
+        Some(Callee {
+            args: &func.sig.args,
+            results: &func.sig.results,
+        })
+    }
+
+    /// The types of the function that the value names.
+    pub(crate) fn callee_of(&self, aux: Aux) -> Option<Callee<'a>> {
+        match aux {
+            Aux::Sym(symbol) => self.callee(symbol),
             _ => None,
         }
     }

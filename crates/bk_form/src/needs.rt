@@ -6,7 +6,7 @@ use std::alloc::{AllocError, Global};
 /// A search backwards along arguments inside one block, which does not pass phis.
 #[derive(Drop)]
 pub(crate) struct Search<'a> {
-    graph: &'a Graph<'a>,
+    graph: &'a Graph,
     /// For each value the number of the last search that met it.
     met: Vec<u64>,
     search: u64,
@@ -15,7 +15,7 @@ pub(crate) struct Search<'a> {
 }
 
 impl<'a> Search<'a> {
-    pub(crate) fn new(alloc: Global, graph: &'a Graph<'a>) -> Result<Search<'a>, AllocError> {
+    pub(crate) fn new(alloc: Global, graph: &'a Graph) -> Result<Search<'a>, AllocError> {
         let mut met = Vec::with_capacity(alloc, graph.nodes.len())?;
         for _ in 0..graph.nodes.len() {
             met.push(0u64)?;
@@ -71,7 +71,7 @@ impl<'a> Search<'a> {
         let Some(node) = graph.nodes.get(place) else {
             return Ok(())
         };
-        if node.value.op.family == Family::Phi {
+        if node.op.family == Family::Phi {
             return Ok(());
         }
         for arg in node.args.as_slice() {

@@ -92,11 +92,11 @@ fn namings(alloc: Global, graph: &Graph, states: &States) -> Result<Vec<Naming>,
 }
 
 fn role_of(node: &Node, states: &States, place: usize) -> Option<Role> {
-    match node.value.op.family {
+    match node.op.family {
         Family::NilCheck | Family::Arm(ArmOp::Nil) | Family::Rv(RvOp::Nil) => Some(Role::NilCheck),
         Family::Load | Family::Arm(ArmOp::Load) | Family::Rv(RvOp::Load) => Some(Role::Load),
         Family::ResWord => Some(Role::Result),
-        Family::SelectN if node.value.ty != Ty::Mem => Some(Role::Result),
+        Family::SelectN if node.ty != Ty::Mem => Some(Role::Result),
         _ if states.is_state(place) => Some(Role::Next),
         _ => None,
     }
@@ -126,7 +126,7 @@ impl Order {
         place: usize,
         node: &Node,
     ) -> Result<(), AllocError> {
-        if node.value.op.family == Family::Phi {
+        if node.op.family == Family::Phi {
             return Ok(());
         }
         for arg in node.args.as_slice() {

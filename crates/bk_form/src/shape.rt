@@ -1,5 +1,10 @@
 // What the places of an op take and what it gives.
-use bk_func::{Aux, Value};
+ghost use Rattle.std.specs.Prelude.{◌≡◌, ◌↔◌, IsTrue};
+ghost use Rattle.bk_ops.specs.Types.{word_width as bits_of_word};
+ghost use Rattle.bk_form.specs.Shapes.{first_else, IsData, IsAlike};
+
+use crate::graph::Node;
+use bk_func::Aux;
 use bk_ops::{Class, Family, Op, Target, Ty, op_info, width};
 
 /// What a place of an op takes.
@@ -53,7 +58,9 @@ pub(crate) fn slot_of(op: Op, index: usize) -> Slot {
     }
 }
 
-fn at(index: usize, first: Slot, second: Slot) -> Slot {
+fn at(index: usize, first: Slot, second: Slot) -> Slot
+    ensures { result ≡ first_else index first second }
+{
     if index == 0 { first } else { second }
 }
 
@@ -62,7 +69,7 @@ fn other_slot(op: Op, index: usize) -> Slot {
     let info = op_info(op);
     match info.arity {
         Some(arity) if info.memory => {
-            if index + 1 == arity as usize {
+            if index.checked_add(1) == Some(arity as usize) {
                 Slot::Mem
             } else {
                 Slot::Word
@@ -76,22 +83,33 @@ fn other_slot(op: Op, index: usize) -> Slot {
 }
 
 /// Whether values of the type are numbers or truth values, which stand in machine words.
-pub(crate) fn is_data(ty: Ty, target: Target) -> bool {
+pub(crate) fn is_data(ty: Ty, target: Target) -> bool
+    ensures { IsTrue result ↔ IsData target ty }
+{
     width(ty, target) != 0
 }
 
+/// Types of numbers are told apart by their widths alone.
+pub(crate) fn alike(one: Ty, other: Ty, target: Target) -> bool
+    ensures { IsTrue result ↔ IsAlike target one other }
+{
+    is_data(one, target) && width(one, target) == width(other, target)
+}
+
 /// The bits of a machine word.
-pub(crate) fn word_width(target: Target) -> u32 {
+pub(crate) fn word_width(target: Target) -> u32
+    ensures { result ≡ bits_of_word target }
+{
     width(Ty::Uintptr, target)
 }
 
-/// Whether the op is one that gives memory, a state that later values may name. A copy is none, and the
-/// collected results of a function are none.
-pub(crate) fn gives_state(value: &Value) -> bool {
-    match value.op.family {
+/// Whether the value is a state of memory, which later values may name. A copy is none, and the results of a
+/// function are none; a call is one, whatever its results.
+pub(crate) fn gives_state(node: &Node) -> bool {
+    match node.op.family {
         Family::Copy | Family::MakeResult => false,
         Family::StaticLECall => true,
-        _ => value.ty == Ty::Mem,
+        _ => node.ty == Ty::Mem,
     }
 }
 

@@ -23,7 +23,7 @@ enum Next {
 /// The states of memory of a function.
 #[derive(Drop)]
 pub(crate) struct States<'a> {
-    graph: &'a Graph<'a>,
+    graph: &'a Graph,
     /// The first state of all.
     pub(crate) initial: Option<usize>,
     /// For each value what it copies in the end, where it is a copy of memory, else itself.
@@ -33,7 +33,7 @@ pub(crate) struct States<'a> {
 }
 
 impl<'a> States<'a> {
-    pub(crate) fn new(alloc: Global, graph: &'a Graph<'a>) -> Result<States<'a>, AllocError> {
+    pub(crate) fn new(alloc: Global, graph: &'a Graph) -> Result<States<'a>, AllocError> {
         let initial = initial_state(graph);
         let roots = roots(alloc, graph)?;
         let mut states = States {
@@ -59,8 +59,8 @@ impl<'a> States<'a> {
     /// Whether the value is a state of memory.
     pub(crate) fn is_state(&self, place: usize) -> bool {
         match self.graph.node(place) {
-            Some(node) if node.value.op.family == Family::InitMem => self.initial == Some(place),
-            Some(node) => gives_state(node.value),
+            Some(node) if node.op.family == Family::InitMem => self.initial == Some(place),
+            Some(node) => gives_state(node),
             None => false,
         }
     }
@@ -81,7 +81,7 @@ impl<'a> States<'a> {
     pub(crate) fn has_phi(&self, block: usize) -> bool {
         match self.chains.get(block) {
             Some(Chain::Linked { first, .. }) => match self.graph.node(*first) {
-                Some(node) => node.value.op.family == Family::Phi,
+                Some(node) => node.op.family == Family::Phi,
                 None => false,
             },
             _ => false,
@@ -167,7 +167,7 @@ impl<'a> States<'a> {
 fn initial_state(graph: &Graph) -> Option<usize> {
     let entry = graph.parts.first()?;
     (entry.start..entry.end).find(|place| match graph.node(*place) {
-        Some(node) => node.value.op.family == Family::InitMem,
+        Some(node) => node.op.family == Family::InitMem,
         None => false,
     })
 }
@@ -175,17 +175,17 @@ fn initial_state(graph: &Graph) -> Option<usize> {
 /// The argument by which the value names a state: memory, or for a result its call. A phi has none.
 pub(crate) fn memory_argument(node: &Node) -> Option<usize> {
     let args = node.args.as_slice();
-    match node.value.op.family {
+    match node.op.family {
         Family::Phi => None,
-        Family::Copy if node.value.ty == Ty::Mem => args.first().copied(),
+        Family::Copy if node.ty == Ty::Mem => args.first().copied(),
         Family::SelectN | Family::ResWord => args.first().copied(),
-        _ if op_info(node.value.op).memory => args.last().copied(),
+        _ if op_info(node.op).memory => args.last().copied(),
         _ => None,
     }
 }
 
 fn is_copy(node: &Node) -> bool {
-    node.value.op.family == Family::Copy && node.value.ty == Ty::Mem
+    node.op.family == Family::Copy && node.ty == Ty::Mem
 }
 
 /// For each value what it copies in the end, where it is a copy of memory, else itself. Each round doubles

@@ -1,48 +1,43 @@
 // The numbers beside ops.
 use crate::Place;
 use crate::graph::{Graph, Node};
-use crate::names::Names;
-use bk_func::{Aux, Func};
+use crate::names::Scope;
 use bk_ops::{AuxKind, Family, Target, Ty, op_info, width};
 
 /// The first value whose number beside the op is not in the op's range.
-pub(crate) fn first_fault(
-    graph: &Graph,
-    names: &Names,
-    func: &Func,
-    target: Target,
-) -> Option<Place> {
+pub(crate) fn first_fault(graph: &Graph, scope: &Scope) -> Option<Place> {
     for node in &graph.nodes {
-        if !fits(graph, node, names, func, target) {
-            return Some(Place::Value(node.value.id));
+        if !fits(graph, scope, node) {
+            return Some(Place::Value(node.id));
         }
     }
     None
 }
 
-fn fits(graph: &Graph, node: &Node, names: &Names, func: &Func, target: Target) -> bool {
-    let value = node.value;
-    if op_info(value.op).aux != AuxKind::Int {
-        return value.int == 0;
+fn fits(graph: &Graph, scope: &Scope, node: &Node) -> bool {
+    if op_info(node.op).aux != AuxKind::Int {
+        return node.int == 0;
     }
-    match value.op.family {
-        Family::Const => is_signed(value.op.a, value.int),
-        Family::ConstBool => value.int == 0 || value.int == 1,
-        Family::Trap => 1 <= value.int && value.int <= 6,
-        Family::SelectN => match results(graph, node, names) {
-            Some(count) => is_among(value.int, 0, count + 1),
-            None => false,
-        },
-        Family::ArgWord => is_among(value.int, 0, words(&func.sig.args, target)),
+    match node.op.family {
+        Family::Const => is_signed(node.op.a, node.int),
+        Family::ConstBool => node.int == 0 || node.int == 1,
+        Family::Trap => 1 <= node.int && node.int <= 6,
+        Family::SelectN => is_result(graph, scope, node),
+        Family::ArgWord => is_among(node.int, 0, words(scope.own.args, scope.target)),
         Family::RetWord => {
-            let args = words(&func.sig.args, target);
-            is_among(
-                value.int,
-                args,
-                args.saturating_add(words(&func.sig.results, target)),
-            )
+            let args = words(scope.own.args, scope.target);
+            let results = words(scope.own.results, scope.target);
+            is_among(node.int, args, args.saturating_add(results))
         }
         _ => true,
+    }
+}
+
+/// Whether the number is that of a result of the value's call, or of the memory behind the last.
+fn is_result(graph: &Graph, scope: &Scope, node: &Node) -> bool {
+    match results(graph, scope, node) {
+        Some(count) => is_among(node.int, 0, count.saturating_add(1)),
+        None => false,
     }
 }
 
@@ -57,12 +52,9 @@ fn is_signed(bits: u8, int: i64) -> bool {
 }
 
 /// The count of results of the call that the value takes one of.
-fn results(graph: &Graph, node: &Node, names: &Names) -> Option<usize> {
+fn results(graph: &Graph, scope: &Scope, node: &Node) -> Option<usize> {
     let call = graph.node(*node.args.as_slice().first()?)?;
-    match call.value.aux {
-        Aux::Sym(symbol) => Some(names.callee(symbol)?.results.len()),
-        _ => None,
-    }
+    Some(scope.callee_of(call.aux)?.results.len())
 }
 
 /// Whether the number is at least `low` and below `high`.
