@@ -1,7 +1,7 @@
 // What the places of an op take and what it gives.
 ghost use Rattle.std.specs.Prelude.{◌≡◌, ◌↔◌, IsTrue};
 ghost use Rattle.bk_ops.specs.Types.{word_width as bits_of_word};
-ghost use Rattle.bk_form.specs.Shapes.{first_else, IsData, IsAlike};
+ghost use Rattle.bk_form.specs.Shapes.{words_and_memory, is_last, first_else, IsData, IsAlike};
 
 use crate::graph::Node;
 use bk_func::Aux;
@@ -53,8 +53,12 @@ pub(crate) fn slot_of(op: Op, index: usize) -> Slot {
         Family::Addr => Slot::Base,
         Family::SelectN | Family::ResWord => Slot::Call,
         Family::Store if index == 1 => Slot::Stored,
-        Family::OutWord | Family::RetWord if index == 0 => Slot::Any,
-        _ => other_slot(op, index),
+        Family::Load | Family::Store | Family::Zero | Family::Move | Family::NilCheck =>
+            words_and_memory(op, index),
+        Family::PanicBounds | Family::Arm(_) | Family::Rv(_) => words_and_memory(op, index),
+        Family::OutWord | Family::RetWord => at(index, Slot::Any, Slot::Mem),
+        Family::Call | Family::Trap => Slot::Mem,
+        _ => Slot::Bits(op.a),
     }
 }
 
@@ -64,21 +68,24 @@ fn at(index: usize, first: Slot, second: Slot) -> Slot
     if index == 0 { first } else { second }
 }
 
-/// The ops that take memory last and else words, and those of one width.
-fn other_slot(op: Op, index: usize) -> Slot {
+/// Words, with memory last where the op takes memory.
+fn words_and_memory(op: Op, index: usize) -> Slot
+    ensures { result ≡ words_and_memory op index }
+{
     let info = op_info(op);
-    match info.arity {
-        Some(arity) if info.memory => {
-            if index.checked_add(1) == Some(arity as usize) {
-                Slot::Mem
-            } else {
-                Slot::Word
-            }
-        }
-        _ => match op.family {
-            Family::Arm(_) | Family::Rv(_) => Slot::Word,
-            _ => Slot::Bits(op.a),
-        },
+    if info.memory && is_last(info.arity, index) {
+        Slot::Mem
+    } else {
+        Slot::Word
+    }
+}
+
+fn is_last(arity: Option<u8>, index: usize) -> bool
+    ensures { result ≡ is_last arity index }
+{
+    match arity {
+        Some(arity) => index.checked_add(1) == Some(arity as usize),
+        None => false,
     }
 }
 
