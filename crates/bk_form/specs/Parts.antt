@@ -1,5 +1,5 @@
 -- What one block or one value must be by itself: edges, names, counts, types and numbers beside ops.
-use Rattle.std.specs.Prelude.{◌≡◌, ℕ, ℤ, pos, negsuc, ◌+◌, ◌<◌, ◌≤ℤ◌, ◌<ℤ◌, ◌==◌, ◌||◌, if◌then◌else◌, List, [], length, sum_by, count_by, Option, Some, None, IsSome, IfSome, ◌^◌, ◌-◌}
+use Rattle.std.specs.Prelude.{◌≡◌, nat_lt, ℕ, ℤ, pos, negsuc, ◌+◌, ◌<◌, ◌≤ℤ◌, ◌<ℤ◌, ◌==◌, ◌||◌, if◌then◌else◌, List, [], length, sum_by, count_by, Option, Some, None, IsSome, IfSome, ◌^◌, ◌-◌}
 use Rattle.std.specs.List.{All, Contains, find, slice_get}
 use Rattle.bk_ops.specs.Table.{info_of}
 use Rattle.bk_ops.specs.Types.{width_of}
@@ -64,14 +64,15 @@ sig_in None = None
 sig_in (Some g) = Some g.sig
 
 abbrev pub sig_named : PackageRecord → ℕ → Option SigRecord
-sig_named p s = if s == 4294967294 || s == 4294967295 then Some no_sig else sig_in (find (λ g. g.name == s) p.funcs)
+sig_named p s =
+    if s == 4294967294 || s == 4294967295 then Some no_sig else (if nat_lt s (length p.names) then sig_in (find (λ g. g.name == s) p.funcs) else None)
 
 abbrev pub sig_of : PackageRecord → Aux → Option SigRecord
 sig_of p (beside.Sym s) = sig_named p s
 sig_of p _ = None
 
 abbrev pub IsVariable : PackageRecord → ℕ → Type 0
-IsVariable p s = (v : VarRecord) × Contains p.vars v × (v.name ≡ s)
+IsVariable p s = s < length p.names × ((v : VarRecord) × Contains p.vars v × (v.name ≡ s))
 
 -- what an op names: nothing, a function, a variable or an argument
 pub data Symbol : Type 0 where

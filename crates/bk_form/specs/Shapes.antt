@@ -88,7 +88,40 @@ slot o op.Call i = takes.Mem
 slot o op.Trap i = takes.Mem
 slot o (op.Arm m) i = words_and_memory o i
 slot o (op.Rv m) i = words_and_memory o i
-slot o _ i = takes.Bits o.a
+-- ops of one width, and ops without arguments or with those of a signature
+slot o op.Const i = takes.Bits o.a
+slot o op.ConstBool i = takes.Bits o.a
+slot o op.ConstNil i = takes.Bits o.a
+slot o op.Add i = takes.Bits o.a
+slot o op.Sub i = takes.Bits o.a
+slot o op.Mul i = takes.Bits o.a
+slot o op.And i = takes.Bits o.a
+slot o op.Or i = takes.Bits o.a
+slot o op.Xor i = takes.Bits o.a
+slot o op.Neg i = takes.Bits o.a
+slot o op.Com i = takes.Bits o.a
+slot o op.Div i = takes.Bits o.a
+slot o op.Divu i = takes.Bits o.a
+slot o op.Mod i = takes.Bits o.a
+slot o op.Modu i = takes.Bits o.a
+slot o op.Hmul i = takes.Bits o.a
+slot o op.Hmulu i = takes.Bits o.a
+slot o op.Eq i = takes.Bits o.a
+slot o op.Neq i = takes.Bits o.a
+slot o op.Less i = takes.Bits o.a
+slot o op.LessU i = takes.Bits o.a
+slot o op.Leq i = takes.Bits o.a
+slot o op.LeqU i = takes.Bits o.a
+slot o op.SignExt i = takes.Bits o.a
+slot o op.ZeroExt i = takes.Bits o.a
+slot o op.Trunc i = takes.Bits o.a
+slot o op.Arg i = takes.Bits o.a
+slot o op.InitMem i = takes.Bits o.a
+slot o op.Sp i = takes.Bits o.a
+slot o op.Sb i = takes.Bits o.a
+slot o op.StaticLECall i = takes.Bits o.a
+slot o op.MakeResult i = takes.Bits o.a
+slot o op.ArgWord i = takes.Bits o.a
 
 -- the base of the variables is an argument of addresses alone
 abbrev pub IsFree : ValueRecord → Type 0

@@ -8,12 +8,11 @@ pub(crate) const PANIC_DIVIDE: u32 = 4_294_967_294;
 /// The symbol of `runtime.panicshift`, a function without arguments and results.
 pub(crate) const PANIC_SHIFT: u32 = 4_294_967_295;
 
+/// What a name names: the place of the first function with it, and whether a variable has it.
 #[derive(Clone, Copy)]
-enum Named {
-    Nothing,
-    /// The function at this place.
-    Func(usize),
-    Var,
+struct Named {
+    func: Option<usize>,
+    is_var: bool,
 }
 
 /// The types of a function's arguments and results.
@@ -33,31 +32,34 @@ impl Names {
     pub(crate) fn new(alloc: Global, pkg: &Package) -> Result<Names, AllocError> {
         let mut named = Vec::with_capacity(alloc, pkg.names.len())?;
         for _ in 0..pkg.names.len() {
-            named.push(Named::Nothing)?;
+            named.push(Named {
+                func: None,
+                is_var: false,
+            })?;
         }
         for (index, func) in pkg.funcs.iter().enumerate() {
             if let Some(place) = named.get_mut(func.name as usize) {
-                *place = Named::Func(index);
+                place.func = place.func.or(Some(index));
             }
         }
         for var in &pkg.vars {
             if let Some(place) = named.get_mut(var.name as usize) {
-                *place = Named::Var;
+                place.is_var = true;
             }
         }
         Ok(Names { named })
     }
 
     pub(crate) fn is_var(&self, symbol: u32) -> bool {
-        matches!(self.named.get(symbol as usize), Some(Named::Var))
+        match self.named.get(symbol as usize) {
+            Some(named) => named.is_var,
+            None => false,
+        }
     }
 
-    /// The function with this name.
+    /// The first function with this name.
     fn func(&self, symbol: u32) -> Option<usize> {
-        match self.named.get(symbol as usize) {
-            Some(Named::Func(index)) => Some(*index),
-            _ => None,
-        }
+        self.named.get(symbol as usize)?.func
     }
 }
 

@@ -1,7 +1,7 @@
 // What the places of an op take and what it gives.
 ghost use Rattle.std.specs.Prelude.{◌≡◌, ◌↔◌, IsTrue};
 ghost use Rattle.bk_ops.specs.Types.{word_width as bits_of_word};
-ghost use Rattle.bk_form.specs.Shapes.{words_and_memory, is_last, first_else, IsData, IsAlike};
+ghost use Rattle.bk_form.specs.Shapes.{slot, words_and_memory, is_last, first_else, IsData, IsAlike};
 
 use crate::graph::Node;
 use bk_func::Aux;
@@ -29,12 +29,15 @@ pub(crate) enum Slot {
 }
 
 /// What the op takes at this place, where the op alone says it.
-pub(crate) fn slot_of(op: Op, index: usize) -> Slot {
+#[tactic(auto, unfolding(crate::specs::Shapes::slot))]
+pub(crate) fn slot_of(op: Op, index: usize) -> Slot
+    ensures { result ≡ slot op op.family index }
+{
     match op.family {
         Family::Lsh | Family::Rsh | Family::RshU => at(index, Slot::Bits(op.a), Slot::Bits(op.b)),
         Family::RotateLeft => at(index, Slot::Bits(op.a), Slot::Word),
-        Family::CondSelect if index == 2 => Slot::Bool,
-        Family::CondSelect | Family::Phi | Family::Copy => Slot::Same,
+        Family::CondSelect => if index == 2 { Slot::Bool } else { Slot::Same },
+        Family::Phi | Family::Copy => Slot::Same,
         Family::EqB
         | Family::NeqB
         | Family::AndB
@@ -52,13 +55,28 @@ pub(crate) fn slot_of(op: Op, index: usize) -> Slot {
         Family::Int64Hi | Family::Int64Lo => Slot::Bits(64),
         Family::Addr => Slot::Base,
         Family::SelectN | Family::ResWord => Slot::Call,
-        Family::Store if index == 1 => Slot::Stored,
-        Family::Load | Family::Store | Family::Zero | Family::Move | Family::NilCheck =>
-            words_and_memory(op, index),
+        Family::Store => if index == 1 {
+            Slot::Stored
+        } else {
+            words_and_memory(op, index)
+        },
+        Family::Load | Family::Zero | Family::Move | Family::NilCheck => words_and_memory(
+            op, index,
+        ),
         Family::PanicBounds | Family::Arm(_) | Family::Rv(_) => words_and_memory(op, index),
         Family::OutWord | Family::RetWord => at(index, Slot::Any, Slot::Mem),
         Family::Call | Family::Trap => Slot::Mem,
-        _ => Slot::Bits(op.a),
+        // Ops of one width, and ops without arguments or with those of a signature.
+        Family::Const | Family::ConstBool | Family::ConstNil => Slot::Bits(op.a),
+        Family::Add | Family::Sub | Family::Mul | Family::And | Family::Or | Family::Xor =>
+            Slot::Bits(op.a),
+        Family::Neg | Family::Com | Family::Div | Family::Divu | Family::Mod | Family::Modu =>
+            Slot::Bits(op.a),
+        Family::Hmul | Family::Hmulu | Family::Eq | Family::Neq => Slot::Bits(op.a),
+        Family::Less | Family::LessU | Family::Leq | Family::LeqU => Slot::Bits(op.a),
+        Family::SignExt | Family::ZeroExt | Family::Trunc => Slot::Bits(op.a),
+        Family::Arg | Family::InitMem | Family::Sp | Family::Sb => Slot::Bits(op.a),
+        Family::StaticLECall | Family::MakeResult | Family::ArgWord => Slot::Bits(op.a),
     }
 }
 
