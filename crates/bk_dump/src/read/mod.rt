@@ -11,6 +11,8 @@ mod number;
 mod part;
 mod reader;
 mod resolve;
+#[cfg(test)]
+mod tests;
 mod types;
 mod value;
 

@@ -66,10 +66,14 @@ fn aux_of(op: Op, name: &str, parameters: &IndexSet<&str>, names: &IndexSet<&str
 
 /// The first of these numbers that is not declared.
 fn first_missing(numbers: &[u32], declared: &HashSet<u32>) -> Option<u32> {
-    numbers.iter().copied().find(|number| !declared.contains(number))
+    numbers
+        .iter()
+        .copied()
+        .find(|number| !declared.contains(number))
 }
 
 /// What the references of one function may name.
+#[derive(Clone, Copy)]
 struct Scope<'b, 'a> {
     names: &'b IndexSet<&'a str>,
     parameters: &'b IndexSet<&'a str>,
@@ -81,7 +85,13 @@ struct Scope<'b, 'a> {
 
 impl<'b, 'a> Scope<'b, 'a> {
     /// The aux of a value, its name looked up, and the count of names mentioned up to here.
-    fn resolve_aux(&self, alloc: Global, op: Op, aux: Aux, count: usize) -> Result<(Aux, usize), DumpError> {
+    fn resolve_aux(
+        &self,
+        alloc: Global,
+        op: Op,
+        aux: Aux,
+        count: usize,
+    ) -> Result<(Aux, usize), DumpError> {
         if !mentions_name(op) || count >= self.mentions.len() {
             return Ok((aux, count));
         }
@@ -93,23 +103,47 @@ impl<'b, 'a> Scope<'b, 'a> {
     }
 
     /// The values of a block with their names looked up, and the count of names mentioned up to here.
-    fn resolve_values(&self, alloc: Global, values: Vec<Value>, count: usize) -> Result<(Vec<Value>, usize), DumpError> {
+    fn resolve_values(
+        &self,
+        alloc: Global,
+        values: Vec<Value>,
+        count: usize,
+    ) -> Result<(Vec<Value>, usize), DumpError> {
         let mut resolved = Vec::with_capacity(alloc, values.len())?;
         let mut count = count;
         for value in values {
-            let Value { id, op, ty, args, int, aux } = value;
+            let Value {
+                id,
+                op,
+                ty,
+                args,
+                int,
+                aux,
+            } = value;
             let (aux, next) = self.resolve_aux(alloc, op, aux, count)?;
             if let Some(number) = first_missing(args.as_slice(), self.values) {
                 return Err(undefined(alloc, Missing::Value(number)));
             }
             count = next;
-            resolved.push(Value { id, op, ty, args, int, aux })?;
+            resolved.push(Value {
+                id,
+                op,
+                ty,
+                args,
+                int,
+                aux,
+            })?;
         }
         Ok((resolved, count))
     }
 
     /// Whether the references at the end of a block name something.
-    fn check_end(&self, alloc: Global, control: Option<u32>, succs: &[u32]) -> Result<(), DumpError> {
+    fn check_end(
+        &self,
+        alloc: Global,
+        control: Option<u32>,
+        succs: &[u32],
+    ) -> Result<(), DumpError> {
         if let Some(number) = control
             && !self.values.contains(&number)
         {
@@ -122,14 +156,38 @@ impl<'b, 'a> Scope<'b, 'a> {
     }
 
     /// A block with its names looked up, and the count of names mentioned up to its end.
-    fn resolve_block(&self, alloc: Global, block: Block, count: usize) -> Result<(Block, usize), DumpError> {
-        let Block { id, kind, control, preds, succs, likely, values } = block;
+    fn resolve_block(
+        &self,
+        alloc: Global,
+        block: Block,
+        count: usize,
+    ) -> Result<(Block, usize), DumpError> {
+        let Block {
+            id,
+            kind,
+            control,
+            preds,
+            succs,
+            likely,
+            values,
+        } = block;
         if let Some(number) = first_missing(&preds, self.blocks) {
             return Err(undefined(alloc, Missing::Block(number)));
         }
         let (values, count) = self.resolve_values(alloc, values, count)?;
         self.check_end(alloc, control, &succs)?;
-        Ok((Block { id, kind, control, preds, succs, likely, values }, count))
+        Ok((
+            Block {
+                id,
+                kind,
+                control,
+                preds,
+                succs,
+                likely,
+                values,
+            },
+            count,
+        ))
     }
 
     /// The blocks of the function with their names looked up.
@@ -146,11 +204,36 @@ impl<'b, 'a> Scope<'b, 'a> {
 }
 
 /// The function with its references looked up. Undefined says which is the first in text order that names nothing.
-pub(crate) fn resolve<'a>(alloc: Global, draft: Draft<'a>, names: &IndexSet<&'a str>) -> Result<Func, DumpError> {
-    let Draft { func, parameters, mentions, values, blocks } = draft;
-    let Func { name, sig, blocks: read, given } = func;
-    let scope =
-        Scope { names, parameters: &parameters, values: &values, blocks: &blocks, mentions: mentions.as_slice() };
+pub(crate) fn resolve<'a>(
+    alloc: Global,
+    draft: Draft<'a>,
+    names: &IndexSet<&'a str>,
+) -> Result<Func, DumpError> {
+    let Draft {
+        func,
+        parameters,
+        mentions,
+        values,
+        blocks,
+    } = draft;
+    let Func {
+        name,
+        sig,
+        blocks: read,
+        given,
+    } = func;
+    let scope = Scope {
+        names,
+        parameters: &parameters,
+        values: &values,
+        blocks: &blocks,
+        mentions: mentions.as_slice(),
+    };
     let resolved = scope.resolve_blocks(alloc, read)?;
-    Ok(Func { name, sig, blocks: resolved, given })
+    Ok(Func {
+        name,
+        sig,
+        blocks: resolved,
+        given,
+    })
 }
