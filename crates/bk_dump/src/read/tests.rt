@@ -34,7 +34,7 @@ fn reads_each_spelling(rt: HostRuntime) -> Result<(), Fail> {
 
 #[test]
 fn refuses_the_first_fault(rt: HostRuntime) -> Result<(), Fail> {
-    let rows: [(&[u8], &str); 30] = [
+    let rows: [(&[u8], &str); 29] = [
         (b"f0 func() uuintptr8", "Syntax { line: 1 }"),
         (b"f0 func(a int16) (uint8, int)\nb=1:", "Syntax { line: 2 }"),
         (b"b1:0 func() (int32, uint32, int32)", "Syntax { line: 2 }"),
