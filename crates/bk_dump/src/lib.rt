@@ -1,0 +1,12 @@
+//! The text of a package: its printer, and packages that are made by a rule.
+#![tactic(auto)]
+
+mod claims;
+mod generator;
+mod print;
+#[cfg(test)]
+mod tests;
+
+pub use claims::claim_order;
+pub use generator::generate;
+pub use print::print_package;
