@@ -65,7 +65,7 @@ fn func(
 }
 
 fn first_values(alloc: Global) -> Result<Vec<Value>, AllocError> {
-    vec![in alloc;
+    let all = vec![in alloc;
         value(alloc, 1, Family::InitMem, Ty::Mem, &[], 0, Aux::Nothing)?,
         value(alloc, 2, Family::Arg, Ty::Ptr, &[], 0, Aux::Arg(0))?,
         value(alloc, 3, Family::Arg, Ty::Int, &[], 0, Aux::Arg(27))?,
@@ -90,7 +90,8 @@ fn first_values(alloc: Global) -> Result<Vec<Value>, AllocError> {
             Aux::Sym(2)
         )?,
         value(alloc, 8, Family::SelectN, Ty::Mem, &[7], 2, Aux::Nothing)?,
-    ]
+    ]?;
+    Ok(all)
 }
 
 fn blocks(alloc: Global) -> Result<Vec<Block>, AllocError> {
@@ -105,11 +106,12 @@ fn blocks(alloc: Global) -> Result<Vec<Block>, AllocError> {
         0,
         Aux::Nothing,
     )?;
-    vec![in alloc;
+    let all = vec![in alloc;
         block(alloc, 1, Kind::If, 4, &[], &[2, 3], first_values(alloc)?)?,
         block(alloc, 2, Kind::Exit, 9, &[1], &[], vec![in alloc; second]?)?,
         block(alloc, 3, Kind::Ret, 10, &[1], &[], vec![in alloc; third]?)?,
-    ]
+    ]?;
+    Ok(all)
 }
 
 fn names(alloc: Global, names: &[&str]) -> Result<Vec<String>, AllocError> {
