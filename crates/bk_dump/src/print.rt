@@ -15,7 +15,7 @@ use bk_func::{Func, Memory, Package, Var};
 use std::alloc::Global;
 
 /// Writes the text of a package: each declaration in order, blocks flush left, values and ends of blocks
-/// after two spaces, and one space between parts. A package that some text reads as is read back from it.
+/// after two spaces, and one space between parts. A name's number that names nothing is written as no name.
 pub fn print_package(alloc: Global, pkg: &Package) -> Result<Vec<u8>, Memory>
     ensures { IfOk result (λ text. text.items ≡ text_of pkg.now) }
 {

@@ -5,44 +5,44 @@ use smallvec::SmallVec;
 use std::alloc::{AllocError, Global};
 use std::test::Fail;
 
-fn value(
-    alloc: Global,
-    id: u32,
-    family: Family,
-    ty: Ty,
-    args: &[u32],
-    int: i64,
-    aux: Aux,
-) -> Result<Value, AllocError> {
-    let a = if family == Family::Const { 32 } else { 0 };
-    Ok(Value {
-        id,
-        op: Op { family, a, b: 0 },
-        ty,
-        args: SmallVec::from_slice(alloc, args)?,
-        int,
-        aux,
-    })
+type ValueRow<'a> = (u32, Family, Ty, &'a [u32], i64, Aux);
+
+type BlockRow<'a> = (u32, Kind, u32, &'a [u32], &'a [u32], &'a [ValueRow<'a>]);
+
+fn values(alloc: Global, rows: &[ValueRow<'_>]) -> Result<Vec<Value>, AllocError> {
+    let mut values = Vec::new(alloc);
+    for (id, family, ty, args, int, aux) in rows {
+        let a = if *family == Family::Const { 32 } else { 0 };
+        values.push(Value {
+            id: *id,
+            op: Op {
+                family: *family,
+                a,
+                b: 0,
+            },
+            ty: *ty,
+            args: SmallVec::from_slice(alloc, args)?,
+            int: *int,
+            aux: *aux,
+        })?;
+    }
+    Ok(values)
 }
 
-fn block(
-    alloc: Global,
-    id: u32,
-    kind: Kind,
-    control: u32,
-    preds: &[u32],
-    succs: &[u32],
-    values: Vec<Value>,
-) -> Result<Block, AllocError> {
-    Ok(Block {
-        id,
-        kind,
-        control: Some(control),
-        preds: preds.to_vec(alloc)?,
-        succs: succs.to_vec(alloc)?,
-        likely: Likely::Second,
-        values,
-    })
+fn blocks(alloc: Global, rows: &[BlockRow<'_>]) -> Result<Vec<Block>, AllocError> {
+    let mut blocks = Vec::new(alloc);
+    for (id, kind, control, preds, succs, rows) in rows {
+        blocks.push(Block {
+            id: *id,
+            kind: *kind,
+            control: Some(*control),
+            preds: preds.to_vec(alloc)?,
+            succs: succs.to_vec(alloc)?,
+            likely: Likely::Second,
+            values: values(alloc, rows)?,
+        })?;
+    }
+    Ok(blocks)
 }
 
 fn func(
@@ -62,56 +62,6 @@ fn func(
         blocks,
         given,
     })
-}
-
-fn first_values(alloc: Global) -> Result<Vec<Value>, AllocError> {
-    let all = vec![in alloc;
-        value(alloc, 1, Family::InitMem, Ty::Mem, &[], 0, Aux::Nothing)?,
-        value(alloc, 2, Family::Arg, Ty::Ptr, &[], 0, Aux::Arg(0))?,
-        value(alloc, 3, Family::Arg, Ty::Int, &[], 0, Aux::Arg(27))?,
-        value(alloc, 4, Family::ConstBool, Ty::Bool, &[], 1, Aux::Nothing)?,
-        value(alloc, 5, Family::Const, Ty::Int32, &[], -7, Aux::Nothing)?,
-        value(
-            alloc,
-            6,
-            Family::Store,
-            Ty::Mem,
-            &[2, 5, 1],
-            0,
-            Aux::Ty(Ty::Int32)
-        )?,
-        value(
-            alloc,
-            7,
-            Family::StaticLECall,
-            Ty::Tuple,
-            &[6],
-            0,
-            Aux::Sym(2)
-        )?,
-        value(alloc, 8, Family::SelectN, Ty::Mem, &[7], 2, Aux::Nothing)?,
-    ]?;
-    Ok(all)
-}
-
-fn blocks(alloc: Global) -> Result<Vec<Block>, AllocError> {
-    let panic = Aux::Sym(4_294_967_295);
-    let second = value(alloc, 9, Family::StaticLECall, Ty::Mem, &[8], 0, panic)?;
-    let third = value(
-        alloc,
-        10,
-        Family::MakeResult,
-        Ty::Tuple,
-        &[3, 4, 8],
-        0,
-        Aux::Nothing,
-    )?;
-    let all = vec![in alloc;
-        block(alloc, 1, Kind::If, 4, &[], &[2, 3], first_values(alloc)?)?,
-        block(alloc, 2, Kind::Exit, 9, &[1], &[], vec![in alloc; second]?)?,
-        block(alloc, 3, Kind::Ret, 10, &[1], &[], vec![in alloc; third]?)?,
-    ]?;
-    Ok(all)
 }
 
 fn names(alloc: Global, names: &[&str]) -> Result<Vec<String>, AllocError> {
@@ -154,7 +104,39 @@ const ARGS: [Ty; 28] = [
 ];
 
 fn package(alloc: Global) -> Result<Package, AllocError> {
-    let f = func(alloc, 1, &ARGS, &[Ty::Int, Ty::Bool], blocks(alloc)?, 10)?;
+    let first: [ValueRow<'_>; 8] = [
+        (1, Family::InitMem, Ty::Mem, &[], 0, Aux::Nothing),
+        (2, Family::Arg, Ty::Ptr, &[], 0, Aux::Arg(0)),
+        (3, Family::Arg, Ty::Int, &[], 0, Aux::Arg(27)),
+        (4, Family::ConstBool, Ty::Bool, &[], 1, Aux::Nothing),
+        (5, Family::Const, Ty::Int32, &[], -7, Aux::Nothing),
+        (6, Family::Store, Ty::Mem, &[2, 5, 1], 0, Aux::Ty(Ty::Int32)),
+        (7, Family::StaticLECall, Ty::Tuple, &[6], 0, Aux::Sym(2)),
+        (8, Family::SelectN, Ty::Mem, &[7], 2, Aux::Nothing),
+    ];
+    let second: [ValueRow<'_>; 1] = [(
+        9,
+        Family::StaticLECall,
+        Ty::Mem,
+        &[8],
+        0,
+        Aux::Sym(4_294_967_295),
+    )];
+    let third: [ValueRow<'_>; 1] = [(
+        10,
+        Family::MakeResult,
+        Ty::Tuple,
+        &[3, 4, 8],
+        0,
+        Aux::Nothing,
+    )];
+    let rows: [BlockRow<'_>; 3] = [
+        (1, Kind::If, 4, &[], &[2, 3], &first),
+        (2, Kind::Exit, 9, &[1], &[], &second),
+        (3, Kind::Ret, 10, &[1], &[], &third),
+    ];
+    let body = blocks(alloc, &rows)?;
+    let f = func(alloc, 1, &ARGS, &[Ty::Int, Ty::Bool], body, 10)?;
     let r = func(alloc, 2, &[], &[Ty::Uint8, Ty::Ptr], Vec::new(alloc), 0)?;
     let g = Var {
         name: 0,
