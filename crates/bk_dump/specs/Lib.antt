@@ -1,3 +1,6 @@
-pub mod Lines
 pub mod Parts
+pub mod Lines
 pub mod Texts
+pub mod ClaimOrder
+pub mod Generate
+pub mod Print

@@ -1,5 +1,5 @@
 //! Why a text is refused.
-use crate::read::form::{FormKind, Place};
+use bk_form::{FormKind, Place};
 use std::alloc::{AllocError, AllocFailed};
 
 /// The limits of a text.

@@ -5,7 +5,6 @@ mod block;
 mod declaration;
 mod draft;
 mod errors;
-mod form;
 mod name;
 mod number;
 mod part;
@@ -20,10 +19,10 @@ use crate::read::errors::Fault;
 use crate::read::part::skip_blanks;
 use crate::read::reader::Reader;
 use crate::read::resolve::resolve;
+use bk_form::{FormError, check_form};
 use bk_func::{Func, Package};
 use bk_ops::Target;
 pub use errors::{DumpError, Which};
-pub use form::{FormKind, Place};
 use indexmap::IndexSet;
 use std::alloc::{AllocError, Global};
 
@@ -78,6 +77,29 @@ fn owned(alloc: Global, names: &IndexSet<&str>) -> Result<Vec<String>, AllocErro
     Ok(owned)
 }
 
+/// The name of a function of the package, as a text of its own.
+fn name_of(alloc: Global, package: &Package, func: &Func) -> Result<String, AllocError> {
+    match package.names.get(func.name as usize) {
+        Some(name) => String::from_str(alloc, name),
+        None => Ok(String::new(alloc)),
+    }
+}
+
+/// Refuses the first function that is not in form.
+fn check_forms(alloc: Global, package: &Package, target: Target) -> Result<(), DumpError> {
+    for func in &package.funcs {
+        match check_form(alloc, package, func, target) {
+            Ok(()) => {}
+            Err(FormError::FormFault { kind, place }) => {
+                let func = name_of(alloc, package, func)?;
+                return Err(DumpError::FormFault { func, kind, place });
+            }
+            Err(FormError::Memory) => return Err(DumpError::Memory),
+        }
+    }
+    Ok(())
+}
+
 /// Reads a package from its text.
 ///
 /// The first line at fault decides: on one line Syntax stands before Limit, and Limit before Duplicate. A text that
@@ -96,7 +118,6 @@ pub fn read_package(alloc: Global, bytes: &[u8], target: Target) -> Result<Packa
     }
     let names = owned(alloc, &names)?;
     let package = Package { names, funcs, vars };
-    // The last step, check_form(alloc, &package, func, target) of each function in turn, is to be called here.
-    let _ = target;
+    check_forms(alloc, &package, target)?;
     Ok(package)
 }
