@@ -1,5 +1,5 @@
 -- A function in form, and the first breach of one that is not.
-use Rattle.std.specs.Prelude.{◌≡◌, ℕ, ◌<◌, List, [], Some, ◌⊎◌}
+use Rattle.std.specs.Prelude.{◌≡◌, ℕ, ◌<◌, [], Some, ◌⊎◌}
 use Rattle.std.specs.List.{slice_get}
 use Rattle.bk_ops.specs.Table.{info_of}
 use Rattle.bk_ops.specs.declared.types.Target.{Target}

@@ -1,6 +1,6 @@
 -- What the places of an op take, and what it gives.
-use Rattle.std.specs.Prelude.{◌≡◌, ℕ, ℤ, pos, ◌+◌, ◌<◌, ◌≤◌, ◌<ℤ◌, ◌≤ℤ◌, ◌==◌, ◌||◌, Bool, true, false, if◌then◌else◌, List, [], ◌∷◌, length, Option, Some, None, IsSome, IfSome, MatchOption, ◌⊎◌}
-use Rattle.std.specs.List.{Contains, slice_get}
+use Rattle.std.specs.Prelude.{◌≡◌, ℕ, ℤ, pos, ◌+◌, ◌==◌, Bool, true, false, if◌then◌else◌, List, [], length, Option, Some, None, MatchOption, ◌⊎◌}
+use Rattle.std.specs.List.{slice_get}
 use Rattle.bk_ops.specs.Table.{info_of, is_op}
 use Rattle.bk_ops.specs.Types.{width_of, word_width}
 use Rattle.bk_ops.specs.declared.family.Family.{Family}
