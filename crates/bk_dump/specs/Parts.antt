@@ -41,11 +41,11 @@ listed (first ∷ []) = first
 listed (first ∷ (next ∷ more)) = first ++ (mark (codes ",") ∷ listed (next ∷ more))
 
 -- a byte of names: one above 32 but DEL and { } < > , = "
-abbrev pub is_name_byte : ℕ → Bool
+unfoldable pub is_name_byte : ℕ → Bool
 is_name_byte c = nat_lt 32 c && not (c == 127 || c == 123 || c == 125 || c == 60 || c == 62 || c == 44 || c == 61 || c == 34)
 
 -- a byte of names in types and lists of parameters: no round bracket
-abbrev pub is_plain_byte : ℕ → Bool
+unfoldable pub is_plain_byte : ℕ → Bool
 is_plain_byte c = is_name_byte c && not (c == 40 || c == 41)
 
 -- a name

@@ -1,8 +1,10 @@
 //! Numbers at the front of a line's text.
 ghost use Rattle.std.specs.Prelude.{◌≡◌, ◌≤◌, ◌<◌, length, IfSome};
+ghost use Rattle.bk_dump.specs.Reading.{digits_len};
 
 /// How many digits the text begins with.
 fn digits_len(text: &[u8]) -> usize
+    ensures value { result ≡ digits_len text.now }
     ensures within { result ≤ length text.now }
 {
     text.iter()

@@ -1,20 +1,31 @@
 //! Blanks, marks, arrows and groups at the front of a line's text.
-ghost use Rattle.std.specs.Prelude.{◌≡◌, ◌≤◌, ◌<◌, ◌+◌, length, IfSome};
+ghost use Rattle.std.specs.Prelude.{◌≡◌, ◌≤◌, ◌<◌, ◌+◌, [], length, IfSome, IsTrue, ◌↔◌};
+ghost use Rattle.bk_text.specs.Tokens.{is_blank};
+ghost use Rattle.bk_dump.specs.Reading.{blanks_len, unblanked};
 
 /// A space or a tab.
-pub fn is_blank(byte: u8) -> bool {
+pub fn is_blank(byte: u8) -> bool
+    ensures { result ≡ is_blank byte }
+{
     byte == b' ' || byte == b'\t'
+}
+
+/// How many blanks the text begins with.
+fn blanks_len(text: &[u8]) -> usize
+    ensures value { result ≡ blanks_len text.now }
+    ensures within { result ≤ length text.now }
+{
+    text.iter()
+        .position(|byte| !is_blank(*byte))
+        .unwrap_or(text.len())
 }
 
 /// The text behind its first blanks.
 pub fn skip_blanks(text: &[u8]) -> &[u8]
+    ensures value { result.now ≡ unblanked text.now }
     ensures within { length result.now ≤ length text.now }
 {
-    let count = text
-        .iter()
-        .position(|byte| !is_blank(*byte))
-        .unwrap_or(text.len());
-    &text[count..]
+    &text[blanks_len(text)..]
 }
 
 /// The text behind at least one blank.
@@ -57,7 +68,9 @@ pub fn behind_back_arrow(text: &[u8]) -> Option<&[u8]>
 }
 
 /// Whether nothing but blanks is left.
-pub fn is_end(text: &[u8]) -> bool {
+pub fn is_end(text: &[u8]) -> bool
+    ensures { IsTrue result ↔ (unblanked text.now ≡ []) }
+{
     skip_blanks(text).is_empty()
 }
 
