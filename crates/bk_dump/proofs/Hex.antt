@@ -1,5 +1,5 @@
 -- Bytes in hexadecimal digits, one more at a time.
-use Rattle.std.proofs.Common.{◌≡◌, ℕ, ◌+◌, List, ◌++◌, slice_index, add-one, append_assoc, refl, ap, sym, ◌∙◌}
+use Rattle.std.proofs.Common.{◌≡◌, ℕ, ◌+◌, List, ◌++◌, slice_index, add-one, append_assoc, ap, ◌∙◌}
 use Rattle.bk_dump.specs.Print.{hex, hex_to}
 
 -- the first k + 1 bytes are the first k and one more

@@ -1,10 +1,10 @@
 -- The order in which functions are claimed.
-use Rattle.std.proofs.Common.{◌≡◌, ℕ, ◌+◌, ◌<◌, ◌≤◌, Bool, false, List, length, map, arith, slice_index_or, subst}
+use Rattle.std.proofs.Common.{◌≡◌, ℕ, ◌+◌, ◌≤◌, false, List, map, arith, slice_index_or, subst}
 use Rattle.std.specs.Ordering.{is_lt, ordering_then, nat_cmp}
 use Rattle.std.specs.List.Sorted.{IsPermutation, IsSorted}
 use Rattle.std.proofs.lemmas.Bool.Decides.{nat_tests}
 use Rattle.bk_func.specs.Records.{FuncRecord}
-use Rattle.bk_dump.specs.ClaimOrder.{Ranked, ranked_from, place_of, given_of, Precedes, IsClaimOrder}
+use Rattle.bk_dump.specs.ClaimOrder.{Ranked, ranked_from, place_of, given_of, IsClaimOrder}
 
 pub no_shorter : (a b p q : ℕ) → is_lt (ordering_then (nat_cmp a b) (nat_cmp q p)) ≡ false → b ≤ a
 no_shorter a b p q h = grind (arith, nat_tests)

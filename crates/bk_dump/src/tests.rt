@@ -7,8 +7,6 @@ use std::test::Fail;
 
 type ValueRow<'a> = (u32, Family, Ty, &'a [u32], i64, Aux);
 
-type BlockRow<'a> = (u32, Kind, u32, &'a [u32], &'a [u32], &'a [ValueRow<'a>]);
-
 fn values(alloc: Global, rows: &[ValueRow<'_>]) -> Result<Vec<Value>, AllocError> {
     let mut values = Vec::new(alloc);
     for (id, family, ty, args, int, aux) in rows {
@@ -29,20 +27,23 @@ fn values(alloc: Global, rows: &[ValueRow<'_>]) -> Result<Vec<Value>, AllocError
     Ok(values)
 }
 
-fn blocks(alloc: Global, rows: &[BlockRow<'_>]) -> Result<Vec<Block>, AllocError> {
-    let mut blocks = Vec::new(alloc);
-    for (id, kind, control, preds, succs, rows) in rows {
-        blocks.push(Block {
-            id: *id,
-            kind: *kind,
-            control: Some(*control),
-            preds: preds.to_vec(alloc)?,
-            succs: succs.to_vec(alloc)?,
-            likely: Likely::Second,
-            values: values(alloc, rows)?,
-        })?;
-    }
-    Ok(blocks)
+fn block(
+    alloc: Global,
+    end: (u32, Kind, u32),
+    preds: &[u32],
+    succs: &[u32],
+    rows: &[ValueRow<'_>],
+) -> Result<Block, AllocError> {
+    let (id, kind, control) = end;
+    Ok(Block {
+        id,
+        kind,
+        control: Some(control),
+        preds: preds.to_vec(alloc)?,
+        succs: succs.to_vec(alloc)?,
+        likely: Likely::Second,
+        values: values(alloc, rows)?,
+    })
 }
 
 fn func(
@@ -130,12 +131,11 @@ fn package(alloc: Global) -> Result<Package, AllocError> {
         0,
         Aux::Nothing,
     )];
-    let rows: [BlockRow<'_>; 3] = [
-        (1, Kind::If, 4, &[], &[2, 3], &first),
-        (2, Kind::Exit, 9, &[1], &[], &second),
-        (3, Kind::Ret, 10, &[1], &[], &third),
-    ];
-    let body = blocks(alloc, &rows)?;
+    let body = vec![in alloc;
+        block(alloc, (1, Kind::If, 4), &[], &[2, 3], &first)?,
+        block(alloc, (2, Kind::Exit, 9), &[1], &[], &second)?,
+        block(alloc, (3, Kind::Ret, 10), &[1], &[], &third)?,
+    ]?;
     let f = func(alloc, 1, &ARGS, &[Ty::Int, Ty::Bool], body, 10)?;
     let r = func(alloc, 2, &[], &[Ty::Uint8, Ty::Ptr], Vec::new(alloc), 0)?;
     let g = Var {

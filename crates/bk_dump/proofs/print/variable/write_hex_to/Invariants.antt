@@ -1,4 +1,4 @@
-use Rattle.std.proofs.Common.{◌≡◌, ◌++◌, drop, string_bytes}
+use Rattle.std.proofs.Common.{◌≡◌, ◌++◌, string_bytes}
 use Rattle.bk_dump.specs.Print.{hex_to}
 use Rattle.bk_dump.proofs.print.variable.write_hex_to.Given as goal
 
