@@ -1,2 +1,5 @@
 pub mod Encoding
 pub mod Decoding
+pub mod Operands
+pub mod Machine
+pub mod Classes

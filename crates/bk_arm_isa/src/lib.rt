@@ -5,15 +5,23 @@
 //! the table: R15 is no operand, and the flags are written by TST, TEQ, CMP and CMN alone.
 #![tactic(auto)]
 
-ghost use Rattle.std.specs.Prelude.{◌≡◌, ◌↔◌, ℕ, ◌<◌, ◌^◌, Some};
+ghost use Rattle.std.specs.Prelude.{◌≡◌, ◌↔◌, Some};
 ghost use Rattle.bk_arm_isa.specs.declared.Inst.{Inst};
 ghost use Rattle.bk_arm_isa.specs.Encoding.{encoding};
 ghost use Rattle.bk_arm_isa.specs.Decoding.{decoding};
 
+mod flags;
+mod laws;
 mod read;
+mod stop;
 #[cfg(test)]
 mod tests;
+mod words;
 mod write;
+
+pub use flags::Flags;
+pub use laws::{a_stop_changes_nothing, conditions_compare, memory_keeps_its_bytes, one_word_each};
+pub use stop::Stop;
 
 /// The condition field of an instruction (section A8.3).
 #[derive(Clone, Copy, PartialEq, Eq, Debug)]
@@ -252,116 +260,29 @@ pub fn encode(inst: Inst) -> Option<u32>
     ensures { result ≡ encoding inst }
 {
     match inst {
-        Inst::Data {
-            condition,
-            op,
-            rd,
-            rn,
-            operand2,
-        } => { write::data(condition, write::data_opcode(op) * 2, rn, rd, operand2) }
-        Inst::Move {
-            condition,
-            op,
-            rd,
-            operand2,
-        } => { write::data(condition, write::move_opcode(op) * 2, 0, rd, operand2) }
-        Inst::Test {
-            condition,
-            op,
-            rn,
-            operand2,
-        } => write::test(condition, op, rn, operand2),
-        Inst::Movw {
-            condition,
-            rd,
-            imm16,
-        } => write::wide(condition, 0x0300_0000, rd, imm16),
-        Inst::Movt {
-            condition,
-            rd,
-            imm16,
-        } => write::wide(condition, 0x0340_0000, rd, imm16),
-        Inst::Mul {
-            condition,
-            rd,
-            rn,
-            rm,
-        } => write::word(condition, 0x0000_0090, rd, 0, rm, rn),
-        Inst::Mls {
-            condition,
-            rd,
-            rn,
-            rm,
-            ra,
-        } => write::word(condition, 0x0060_0090, rd, ra, rm, rn),
-        Inst::Umull {
-            condition,
-            rd_lo,
-            rd_hi,
-            rn,
-            rm,
-        } => { write::word(condition, 0x0080_0090, rd_hi, rd_lo, rm, rn) }
-        Inst::Smull {
-            condition,
-            rd_lo,
-            rd_hi,
-            rn,
-            rm,
-        } => { write::word(condition, 0x00c0_0090, rd_hi, rd_lo, rm, rn) }
-        Inst::Sdiv {
-            condition,
-            rd,
-            rn,
-            rm,
-        } => write::word(condition, 0x0710_f010, rd, 0, rm, rn),
-        Inst::Udiv {
-            condition,
-            rd,
-            rn,
-            rm,
-        } => write::word(condition, 0x0730_f010, rd, 0, rm, rn),
+        Inst::Data { .. }
+        | Inst::Move { .. }
+        | Inst::Test { .. }
+        | Inst::Movw { .. }
+        | Inst::Movt { .. } => words::processing(inst),
+        Inst::Mul { .. }
+        | Inst::Mls { .. }
+        | Inst::Umull { .. }
+        | Inst::Smull { .. }
+        | Inst::Sdiv { .. }
+        | Inst::Udiv { .. } => words::product(inst),
+        Inst::Ldr { .. }
+        | Inst::Str { .. }
+        | Inst::Ldrb { .. }
+        | Inst::Strb { .. }
+        | Inst::Ldrh { .. }
+        | Inst::Strh { .. } => words::access(inst),
         Inst::Clz { condition, rd, rm } => write::word(condition, 0x016f_0f10, 0, rd, 0, rm),
         Inst::Rbit { condition, rd, rm } => write::word(condition, 0x06ff_0f30, 0, rd, 0, rm),
         Inst::Sxtb { condition, rd, rm } => write::word(condition, 0x06af_0070, 0, rd, 0, rm),
         Inst::Sxth { condition, rd, rm } => write::word(condition, 0x06bf_0070, 0, rd, 0, rm),
         Inst::Uxtb { condition, rd, rm } => write::word(condition, 0x06ef_0070, 0, rd, 0, rm),
         Inst::Uxth { condition, rd, rm } => write::word(condition, 0x06ff_0070, 0, rd, 0, rm),
-        Inst::Ldr {
-            condition,
-            rt,
-            rn,
-            imm12,
-        } => write::memory(condition, 0x0590_0000, rt, rn, imm12),
-        Inst::Str {
-            condition,
-            rt,
-            rn,
-            imm12,
-        } => write::memory(condition, 0x0580_0000, rt, rn, imm12),
-        Inst::Ldrb {
-            condition,
-            rt,
-            rn,
-            imm12,
-        } => write::memory(condition, 0x05d0_0000, rt, rn, imm12),
-        Inst::Strb {
-            condition,
-            rt,
-            rn,
-            imm12,
-        } => write::memory(condition, 0x05c0_0000, rt, rn, imm12),
-        Inst::Ldrh {
-            condition,
-            rt,
-            rn,
-            imm8,
-        } => write::half(condition, 0x01d0_00b0, rt, rn, imm8),
-        Inst::Strh {
-            condition,
-            rt,
-            rn,
-            imm8,
-        } => write::half(condition, 0x01c0_00b0, rt, rn, imm8),
         Inst::B { condition, imm24 } => write::branch(condition, 0x0a00_0000, imm24),
         Inst::Bl { condition, imm24 } => write::branch(condition, 0x0b00_0000, imm24),
         Inst::Bx { condition, rm } => write::word(condition, 0x012f_ff10, 0, 0, 0, rm),
@@ -376,11 +297,3 @@ pub fn decode(word: u32) -> Option<Inst>
 {
     read::decode(word)
 }
-
-/// A law: reading and writing undo each other, no two instructions have one word, and each word has
-/// 32 bits.
-pub fn one_word_each()
-    ensures inverse { (i : Inst) (n : ℕ) → decoding n ≡ Some i ↔ encoding i ≡ Some n }
-    ensures unique { (i j : Inst) (n : ℕ) → encoding i ≡ Some n → encoding j ≡ Some n → i ≡ j }
-    ensures width { (i : Inst) (n : ℕ) → encoding i ≡ Some n → n < 2 ^ 32 }
-{}

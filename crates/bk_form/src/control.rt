@@ -1,6 +1,6 @@
 // Kinds of blocks, and edges.
 ghost use Rattle.std.specs.Prelude.{◌↔◌, IsTrue};
-ghost use Rattle.bk_form.specs.Parts.{FitsKind};
+ghost use Rattle.bk_func.specs.Form.Parts.{FitsKind};
 
 use crate::Place;
 use bk_func::{Block, Func, Kind};

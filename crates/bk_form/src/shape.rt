@@ -1,7 +1,8 @@
 // What the places of an op take and what it gives.
-ghost use Rattle.std.specs.Prelude.{◌≡◌, ◌↔◌, IsTrue};
-ghost use Rattle.bk_ops.specs.Types.{word_width as bits_of_word};
-ghost use Rattle.bk_form.specs.Shapes.{slot, words_and_memory, is_last, first_else, IsData, IsAlike};
+ghost use Rattle.std.specs.Prelude.{◌≡◌, ◌≢◌, ◌↔◌, IsTrue};
+ghost use Rattle.bk_ops.specs.Types.{width_of, word_width as bits_of_word};
+ghost use Rattle.bk_func.specs.Form.Shapes.{slot, words_and_memory, is_last, first_else};
+ghost use Rattle.bk_form.specs.Slots.{seen_slot};
 
 use crate::graph::Node;
 use bk_func::Aux;
@@ -24,14 +25,16 @@ pub(crate) enum Slot {
     Base,
     /// A call.
     Call,
-    /// A number or a truth value of any width.
-    Any,
+    /// A word of an argument of a call.
+    Argument,
+    /// A word of a result of the function.
+    Result,
 }
 
 /// What the op takes at this place, where the op alone says it.
-#[tactic(auto, unfolding(crate::specs::Shapes::slot))]
+#[tactic(auto, unfolding(bk_func::specs::Form::Shapes::slot))]
 pub(crate) fn slot_of(op: Op, index: usize) -> Slot
-    ensures { result ≡ slot op op.family index }
+    ensures { seen_slot result ≡ slot op op.family index }
 {
     match op.family {
         Family::Lsh | Family::Rsh | Family::RshU => at(index, Slot::Bits(op.a), Slot::Bits(op.b)),
@@ -64,7 +67,8 @@ pub(crate) fn slot_of(op: Op, index: usize) -> Slot
             op, index,
         ),
         Family::PanicBounds | Family::Arm(_) | Family::Rv(_) => words_and_memory(op, index),
-        Family::OutWord | Family::RetWord => at(index, Slot::Any, Slot::Mem),
+        Family::OutWord => at(index, Slot::Argument, Slot::Mem),
+        Family::RetWord => at(index, Slot::Result, Slot::Mem),
         Family::Call | Family::Trap => Slot::Mem,
         // Ops of one width, and ops without arguments or with those of a signature.
         Family::Const | Family::ConstBool | Family::ConstNil => Slot::Bits(op.a),
@@ -81,14 +85,14 @@ pub(crate) fn slot_of(op: Op, index: usize) -> Slot
 }
 
 fn at(index: usize, first: Slot, second: Slot) -> Slot
-    ensures { result ≡ first_else index first second }
+    ensures { seen_slot result ≡ first_else index (seen_slot first) (seen_slot second) }
 {
     if index == 0 { first } else { second }
 }
 
 /// Words, with memory last where the op takes memory.
 fn words_and_memory(op: Op, index: usize) -> Slot
-    ensures { result ≡ words_and_memory op index }
+    ensures { seen_slot result ≡ words_and_memory op index }
 {
     let info = op_info(op);
     if info.memory && is_last(info.arity, index) {
@@ -109,14 +113,14 @@ fn is_last(arity: Option<u8>, index: usize) -> bool
 
 /// Whether values of the type are numbers or truth values, which stand in machine words.
 pub(crate) fn is_data(ty: Ty, target: Target) -> bool
-    ensures { IsTrue result ↔ IsData target ty }
+    ensures { IsTrue result ↔ (width_of ty target ≢ 0) }
 {
     width(ty, target) != 0
 }
 
 /// Types of numbers are told apart by their widths alone.
 pub(crate) fn alike(one: Ty, other: Ty, target: Target) -> bool
-    ensures { IsTrue result ↔ IsAlike target one other }
+    ensures { IsTrue result ↔ (width_of one target ≢ 0) × (width_of one target ≡ width_of other target) }
 {
     is_data(one, target) && width(one, target) == width(other, target)
 }

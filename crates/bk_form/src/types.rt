@@ -200,7 +200,7 @@ fn slot_fits(slot: Slot, node: &Node, arg: &Node, target: Target) -> bool {
         Slot::Bool => arg.ty == Ty::Bool,
         Slot::Bits(wanted) => is_free(arg) && bits == wanted as u32,
         Slot::Word => is_free(arg) && bits == word_width(target),
-        Slot::Any => is_free(arg) && bits != 0,
+        Slot::Argument | Slot::Result => is_free(arg) && bits != 0,
         Slot::Same if node.ty == Ty::Mem => arg.ty == Ty::Mem,
         Slot::Same => is_free(arg) && alike(node.ty, arg.ty, target),
         Slot::Stored => match stored_ty(node.aux) {

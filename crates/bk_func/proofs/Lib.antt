@@ -1,3 +1,15 @@
+pub mod Arguments
+pub mod Constructs
 pub mod Blocks
 pub mod Counts
+pub mod Faults
+pub mod Flat
+pub mod Frame
+pub mod Fuel
+pub mod Greedy
+pub mod Kept
+pub mod Needs
 pub mod Places
+pub mod Runs
+pub mod Unchanged
+pub mod Unique

@@ -1,3 +1,10 @@
+pub mod Arguments
+pub mod Construct
 pub mod Edits
+pub mod Effects
+pub mod Form
+pub mod Meaning
+pub mod Numbers
 pub mod Records
 pub mod Steps
+pub mod Words

@@ -20,7 +20,8 @@ pub fn copy_func(alloc: Global, func: &Func) -> Result<Func, Memory>
     })
 }
 
-fn copy_sig(alloc: Global, sig: &Sig) -> Result<Sig, AllocError>
+/// An equal signature.
+pub fn copy_sig(alloc: Global, sig: &Sig) -> Result<Sig, Memory>
     ensures { IfOk result (λ copy. copy ≡ sig.now) }
 {
     Ok(Sig {

@@ -1,22 +1,28 @@
 //! Values, blocks, functions and packages, and their edits.
 #![tactic(auto)]
 
+mod construct;
 mod copy;
 mod edits;
+mod form;
 mod func;
 mod parts;
 mod placed;
+mod signature;
 #[cfg(test)]
 mod tests;
 
 pub use bk_ops::Memory;
-pub use copy::copy_func;
+pub use construct::first_construct;
+pub use copy::{copy_func, copy_sig};
 pub use edits::{
     add_value, block_place, greatest_block, greatest_value, replace, split_edge, uses,
 };
+pub use form::{FormKind, Place};
 pub use func::{Block, Func, Package, Sig, Value, Var};
 pub use parts::{Aux, Kind, Likely, Loc};
 pub use placed::{Placed, PlacedBlock, Step};
+pub use signature::{count_words, fit, words_of_type};
 
 /// Why a function was not rewritten.
 #[derive(Clone, Copy, PartialEq, Eq, Debug)]

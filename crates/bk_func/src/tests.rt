@@ -1,5 +1,5 @@
 use super::*;
-use bk_ops::{Family, Op, Ty};
+use bk_ops::{Family, Op, Target, Ty, op_of_name};
 use smallvec::SmallVec;
 use std::alloc::{AllocError, Global};
 use std::test::Fail;
@@ -60,6 +60,31 @@ fn uses_are_counted_and_replaced(rt: HostRuntime) -> Result<(), Fail> {
     assert_eq!(rt; (uses(&func, 2), uses(&func, 7)), (0, 3));
     let copy = copy_func(rt.alloc(), &func);
     assert!(rt; matches!(&copy, Ok(copy) if uses(copy, 7) == 3 && copy.given == 2));
+    Ok(())
+}
+
+// The least number of a refused value, on arm and on riscv64, where v2 and v3 have these ops and numbers.
+#[test]
+fn first_constructs(rt: HostRuntime) -> Result<(), Fail> {
+    for (ops, numbers, arm, riscv64) in [
+        (["Add64", "Add64"], [0, 0], None, None),
+        (["Add64", "Div64"], [0, 0], Some(3), None),
+        (["Mod64u", "Ctz32"], [0, 0], Some(2), Some(3)),
+        (["Hmul64", "Div32"], [0, 0], Some(2), None),
+        (["Int64Lo", "SP"], [0, 0], Some(3), Some(2)),
+        (["Zero", "Move"], [64, 65], Some(3), Some(3)),
+        (["Move", "Zero"], [-1, 0], Some(2), Some(2)),
+    ] {
+        let mut func = diamond(rt.alloc())?;
+        for ((block, name), int) in func.blocks.iter_mut().zip(&ops).zip(&numbers) {
+            for value in block.values.iter_mut() {
+                value.op = op_of_name(name.as_bytes()).ok_or("no op")?;
+                value.int = *int;
+            }
+        }
+        assert_eq!(rt; first_construct(&func, Target::Arm), arm);
+        assert_eq!(rt; first_construct(&func, Target::Riscv64), riscv64);
+    }
     Ok(())
 }
 

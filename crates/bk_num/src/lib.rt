@@ -1,11 +1,15 @@
-//! Arithmetic modulo 2^w, for widths w from 1 to 64.
+//! Arithmetic modulo 2^w, for widths w from 1 to 64, and windows of bytes.
 //!
-//! Each call takes its numbers modulo 2^w, and a shift's count as it is.
+//! Each call of arithmetic takes its numbers modulo 2^w, and a shift's count as it is.
 #![tactic(auto)]
 
 ghost use Rattle.std.specs.Prelude.{◌≡◌, ◌*◌, ◌/◌, ◌%◌, ◌^◌, ◌≤◌, pos, int_div, int_rem, if◌then◌else◌, ◌==◌, true, false};
 ghost use Rattle.std.specs.Int.{int_div_euclid};
 ghost use Rattle.bk_num.specs.Word.{signed, residue, rotated, high_half};
+
+mod windows;
+
+pub use windows::{load_in, push_bytes, push_each, store_in};
 
 #[cfg(test)]
 mod tests;

@@ -1,4 +1,9 @@
+pub mod Arithmetic
+pub mod Formulas
+pub mod Memory
 pub mod Names
 pub mod Reading
+pub mod Refused
 pub mod Table
 pub mod Types
+pub mod Values

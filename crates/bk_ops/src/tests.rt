@@ -1,3 +1,6 @@
+mod tables;
+mod values;
+
 use super::*;
 use std::test::Fail;
 

@@ -4,4 +4,3 @@ pub mod Back
 pub mod Memory
 pub mod Steps
 pub mod Start
-pub mod Windows

@@ -2,9 +2,11 @@
 use Rattle.std.proofs.Common.{◌≡◌, ℕ, zero, suc, ◌+◌, ◌-◌, ◌*◌, ◌^◌, ◌<◌, ◌≤◌, List, [], ◌∷◌, ◌++◌, length, take, drop, ap, ◌∙◌, sym, refl, arith, Some, append_assoc, length-append}
 use Rattle.std.specs.Prelude.{slice_index, replicate}
 use Rattle.std.proofs.lemmas.List.{take_at, drop_at, drop-drop, length-replicate}
-use Rattle.bk_rv_isa.specs.Bytes.{number, bytes, load_in}
-use Rattle.bk_rv_isa.specs.Machine.{IsPlaced, pool_base, data_base, stack_top, load, argument_words, start_regs, start}
-use Rattle.bk_rv_isa.proofs.Memory.{length-bytes, number-bytes, load_is, load_stack}
+use Rattle.bk_num.specs.Bytes.{number, bytes, load_in}
+use Rattle.bk_num.specs.Memory.{pool_base, data_base}
+use Rattle.bk_rv_isa.specs.Machine.{IsPlaced, stack_top, load, argument_words, start_regs, start}
+use Rattle.bk_num.proofs.Bytes.{length-bytes, number-bytes, load_is}
+use Rattle.bk_rv_isa.proofs.Memory.{load_stack}
 
 pub length-words : (args : List ℕ) → length (argument_words args) ≡ 8 * length args
 length-words [] = refl

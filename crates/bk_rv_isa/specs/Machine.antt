@@ -19,19 +19,12 @@ use Rattle.bk_rv_isa.specs.declared.inst.Inst.TheVariants.{Op, OpImm, Shift, Add
 use Rattle.bk_rv_isa.specs.declared.stop.Stop.{Stop}
 use Rattle.bk_rv_isa.specs.declared.stop.Stop.TheVariants.{Returned, Trapped, Fault}
 use Rattle.bk_rv_isa.specs.Encoding.{decoding}
-use Rattle.bk_rv_isa.specs.Bytes.{bytes, load_in, store_in}
+use Rattle.bk_num.specs.Bytes.{each_bytes}
+use Rattle.bk_num.specs.Memory.{pool_base, data_base, read, write}
 
 -- where the text begins
 abbrev pub text_base : ℕ
 text_base = 65536
-
--- where the pool of constants begins
-abbrev pub pool_base : ℕ
-pool_base = 33554432
-
--- where the data window begins
-abbrev pub data_base : ℕ
-data_base = 67108864
 
 -- where the stack ends; the words of the started function's arguments and results stand there and above
 abbrev pub stack_top : ℕ
@@ -80,34 +73,9 @@ decoded (Some w) = decoding w
 abbrev pub fetch : List ℕ → ℕ → Option Inst
 fetch text pc = if nat_le text_base pc && pc % 4 == 0 then decoded (slice_get text ((pc - text_base) / 4)) else None
 
--- the first of two numbers that is there
-abbrev pub or_in : Option ℕ → Option ℕ → Option ℕ
-or_in (Some n) o = Some n
-or_in None o = o
-
--- the number in `size` bytes at an address; they lie whole in the pool, in the data window or in the stack
-unfoldable pub read : List ℕ → List ℕ → ℕ → List ℕ → ℕ → ℕ → Option ℕ
-read pool window bottom stack size address =
-    or_in (load_in pool_base pool size address) (or_in (load_in data_base window size address) (load_in bottom stack size address))
-
 -- what a load reads
 abbrev pub load : Machine → ℕ → ℕ → Option ℕ
 load m size address = read m.pool m.window m.bottom m.stack size address
-
--- the data window and the stack, with the stack after a write
-abbrev pub to_stack : List ℕ → Option (List ℕ) → Option (List ℕ × List ℕ)
-to_stack window None = None
-to_stack window (Some stack) = Some (window, stack)
-
--- the data window after a write and the stack, or else the other pair
-abbrev pub to_data : List ℕ → Option (List ℕ) → Option (List ℕ × List ℕ) → Option (List ℕ × List ℕ)
-to_data stack None other = other
-to_data stack (Some window) other = Some (window, stack)
-
--- the data window and the stack after `size` bytes at an address were written; they lie whole in one of them
-unfoldable pub write : List ℕ → ℕ → List ℕ → ℕ → ℕ → ℕ → Option (List ℕ × List ℕ)
-write window bottom stack size address n =
-    to_data stack (store_in data_base window size address n) (to_stack window (store_in bottom stack size address n))
 
 -- what a store leaves of the windows that it may write
 abbrev pub store : Machine → ℕ → ℕ → ℕ → Option (List ℕ × List ℕ)
@@ -250,8 +218,7 @@ run (suc n) m = go_on (step m) (run n)
 
 -- the arguments' words
 abbrev pub argument_words : List ℕ → List ℕ
-argument_words [] = []
-argument_words (n ∷ ns) = bytes 8 n ++ argument_words ns
+argument_words args = each_bytes 8 args
 
 -- x1 is the return address that halts, x2 the stack's top, x27 the stack bound
 abbrev pub start_regs : ℕ → List ℕ

@@ -1,13 +1,18 @@
 //! A simulator of the RISC-V machine, whose steps are those of the machine's definition.
 #![tactic(auto)]
 
+mod errors;
 mod machine;
-mod memory;
-mod results;
+mod returned;
+mod starting;
 mod steps;
+mod values;
 
 pub use bk_rv_isa::Stop;
+pub use errors::StartError;
 pub use machine::Machine;
+pub use returned::results;
+pub use starting::start;
 pub use steps::{run, step};
 
 #[cfg(test)]

@@ -1,9 +1,11 @@
-ghost use Rattle.std.specs.Prelude.{◌≡◌, ◌≤◌, ◌+◌, length};
+ghost use Rattle.std.specs.Prelude.{◌≡◌, ◌≤◌, ◌+◌, ◌*◌, length};
+
+use bk_func::Sig;
 
 /// A machine: its registers, its text and its three windows of bytes.
 ///
 /// The text begins at 65,536, the pool at 33,554,432, the data window at 67,108,864 and the stack
-/// at `bottom`.
+/// at `bottom`. The words of the signature stand from 536,870,912 on, in the stack's window.
 #[derive(Drop)]
 pub struct Machine {
     /// The registers x0 to x31.
@@ -20,9 +22,12 @@ pub struct Machine {
     pub stack: Vec<u8>,
     /// The address of the first stack byte.
     pub bottom: u64,
+    /// The signature of the started function.
+    pub sig: Sig,
     ghost registers: { length regs.items ≡ 32 },
     ghost text_fits: { length text.items ≤ 4194304 },
     ghost pool_fits: { 33554432 + length pool.items ≤ 67108864 },
     ghost window_fits: { 67108864 + length window.items ≤ bottom },
     ghost bottom_fits: { bottom ≤ 536870912 },
+    ghost stack_fits: { bottom + length stack.items ≡ 536870912 + 8 * (length sig.args + length sig.results) },
 }

@@ -4,12 +4,11 @@ ghost use Rattle.bk_rv_isa.specs.Machine.{reg, put, fetch, load, load_size, load
 ghost use Rattle.bk_rv_sim.specs.View.{view, ended};
 
 use crate::machine::Machine;
-use crate::memory::{load_in, store_in};
-use crate::results::{
+use crate::values::{
     extended, immediate_result, is_taken, load_result, load_size, plus, register_result,
     shift_result, store_size,
 };
-use bk_num::residue;
+use bk_num::{load_in, residue, store_in};
 use bk_rv_isa::{Inst, LoadOp, Stop, StoreOp, decode};
 
 const TEXT_BASE: u64 = 65_536;
@@ -52,7 +51,7 @@ fn fetch(text: &[u32], pc: u64) -> Option<Inst>
     decode(*word)
 }
 
-#[tactic(auto, unfolding(bk_rv_isa::specs::Machine::read))]
+#[tactic(auto, unfolding(bk_num::specs::Memory::read))]
 fn load(machine: &Machine, size: usize, address: u64) -> Option<u64>
     requires { size ≤ 8 }
     ensures { result ≡ load (view machine.now) size address }
@@ -69,7 +68,8 @@ fn load(machine: &Machine, size: usize, address: u64) -> Option<u64>
 // A register and the next pc.
 fn set(machine: &mut Machine, rd: u8, n: u64)
     requires { machine.old.pc < 2 ^ 32 }
-    ensures { view machine.new ≡ with_reg (view machine.old) rd n }
+    ensures state { view machine.new ≡ with_reg (view machine.old) rd n }
+    ensures sig { machine.new.sig ≡ machine.old.sig }
 {
     put(&mut machine.regs, rd, n);
     machine.pc += 4;
@@ -77,7 +77,8 @@ fn set(machine: &mut Machine, rd: u8, n: u64)
 
 fn load_register(machine: &mut Machine, op: LoadOp, rd: u8, address: u64) -> Option<Stop>
     requires { machine.old.pc < 2 ^ 32 }
-    ensures { (result, view machine.new) ≡ on_load (view machine.old) address (load (view machine.old) (load_size op) address) (λ n. with_reg (view machine.old) rd (load_result op n)) }
+    ensures state { (result, view machine.new) ≡ on_load (view machine.old) address (load (view machine.old) (load_size op) address) (λ n. with_reg (view machine.old) rd (load_result op n)) }
+    ensures sig { machine.new.sig ≡ machine.old.sig }
 {
     match load(machine, load_size(op), address) {
         Some(n) => {
@@ -88,10 +89,11 @@ fn load_register(machine: &mut Machine, op: LoadOp, rd: u8, address: u64) -> Opt
     }
 }
 
-#[tactic(auto, unfolding(bk_rv_isa::specs::Machine::write))]
+#[tactic(auto, unfolding(bk_num::specs::Memory::write))]
 fn store_register(machine: &mut Machine, op: StoreOp, address: u64, n: u64) -> Option<Stop>
     requires { machine.old.pc < 2 ^ 32 }
-    ensures { (result, view machine.new) ≡ on_store (view machine.old) address (store (view machine.old) (store_size op) address n) }
+    ensures state { (result, view machine.new) ≡ on_store (view machine.old) address (store (view machine.old) (store_size op) address n) }
+    ensures sig { machine.new.sig ≡ machine.old.sig }
 {
     let size = store_size(op);
     if store_in(DATA_BASE, &mut machine.window, size, address, n)
@@ -119,7 +121,8 @@ fn trap(machine: &Machine) -> Stop
 // One instruction.
 fn act(machine: &mut Machine, inst: Inst) -> Option<Stop>
     requires { machine.old.pc < 2 ^ 32 }
-    ensures { (result, view machine.new) ≡ act inst (view machine.old) }
+    ensures state { (result, view machine.new) ≡ act inst (view machine.old) }
+    ensures sig { machine.new.sig ≡ machine.old.sig }
 {
     match inst {
         Inst::Op(op, rd, rs1, rs2) => {
@@ -186,7 +189,8 @@ fn act(machine: &mut Machine, inst: Inst) -> Option<Stop>
 
 /// One step: the stop if there is one.
 pub fn step(machine: &mut Machine) -> Option<Stop>
-    ensures { (result, view machine.new) ≡ step (view machine.old) }
+    ensures state { (result, view machine.new) ≡ step (view machine.old) }
+    ensures sig { machine.new.sig ≡ machine.old.sig }
 {
     if machine.pc == HALT {
         return Some(Stop::Returned);
@@ -199,7 +203,8 @@ pub fn step(machine: &mut Machine) -> Option<Stop>
 
 /// At most `bound` steps, up to the first stop: Going where none of them stopped.
 pub fn run(machine: &mut Machine, bound: u64) -> Stop
-    ensures { (result, view machine.new) ≡ ended (run bound (view machine.old)) }
+    ensures state { (result, view machine.new) ≡ ended (run bound (view machine.old)) }
+    ensures sig { machine.new.sig ≡ machine.old.sig }
 {
     for _step in 0..bound {
         if let Some(stop) = step(machine) {

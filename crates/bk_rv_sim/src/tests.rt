@@ -1,7 +1,10 @@
-ghost use Rattle.std.specs.Prelude.{◌≤◌, length};
+ghost use Rattle.std.specs.Prelude.{◌≡◌, ◌≤◌, ◌+◌, ◌*◌, length, IfOk};
 
 use crate::machine::Machine;
+use crate::returned::results;
 use crate::steps::{run, step};
+use bk_func::Sig;
+use bk_ops::Ty;
 use bk_rv_isa::{BranchOp, ImmediateOp, Inst, LoadOp, RegisterOp, ShiftOp, Stop, StoreOp, encode};
 use std::alloc::{AllocError, Global};
 
@@ -15,10 +18,18 @@ const BOTTOM: u64 = 536_870_896;
 
 const DATA_BYTES: [u8; 8] = [0x80, 0xff, 0x7f, 0x01, 0x02, 0x03, 0x04, 0x85];
 
-fn machine(alloc: Global, words: &[u32], stack: &[u8], bottom: u64) -> Result<Machine, AllocError>
+fn machine(
+    alloc: Global,
+    words: &[u32],
+    stack: &[u8],
+    bottom: u64,
+    sig: Sig,
+) -> Result<Machine, AllocError>
     requires few { length words.now ≤ 100 }
     requires low { 67108872 ≤ bottom }
     requires high { bottom ≤ 536870912 }
+    requires stack { bottom + length stack.now ≡ 536870912 + 8 * (length sig.args + length sig.results) }
+    ensures { IfOk result (λ m. m.sig ≡ sig) }
 {
     let regs = Vec::from_slice(alloc, &[0; 32])?;
     let text = Vec::from_slice(alloc, words)?;
@@ -33,13 +44,29 @@ fn machine(alloc: Global, words: &[u32], stack: &[u8], bottom: u64) -> Result<Ma
         window,
         stack,
         bottom,
+        sig,
+    })
+}
+
+fn signature(alloc: Global, args: &[Ty], results: &[Ty]) -> Result<Sig, AllocError>
+    ensures { IfOk result (λ sig. (sig.args ≡ args.now) × (sig.results ≡ results.now)) }
+{
+    Ok(Sig {
+        args: Vec::from_slice(alloc, args)?,
+        results: Vec::from_slice(alloc, results)?,
     })
 }
 
 // A machine at this one instruction, with x and y in x1 and x2.
 fn at(alloc: Global, inst: Inst, x: u64, y: u64) -> Result<Machine, AllocError> {
     let word = encode(inst).unwrap_or(0);
-    let mut m = machine(alloc, &[word], &[0; 16], BOTTOM)?;
+    let mut m = machine(
+        alloc,
+        &[word],
+        &[0; 16],
+        BOTTOM,
+        signature(alloc, &[], &[])?,
+    )?;
     m.regs[1] = x;
     m.regs[2] = y;
     Ok(m)
@@ -123,23 +150,20 @@ const SUM: [u32; 13] = [
     0x006282b3, 0x02513023, 0x00813083, 0x01010113, 0x00008067,
 ];
 
-// The sum of 2 and 3 within so many steps, and the word of its result.
-fn sum(alloc: Global, frame: u64, bound: u64) -> Result<(Stop, u8), AllocError>
+// The sum of 2 and 3 within so many steps, and its result.
+fn sum(alloc: Global, frame: u64, bound: u64) -> Result<(Stop, u64), AllocError>
     requires { frame ≤ 1000 }
 {
     let mut stack = [0; 40];
     stack[16] = 2;
     stack[24] = 3;
-    let mut m = machine(alloc, &SUM, &stack, 536_870_896)?;
+    let sig = signature(alloc, &[Ty::Int, Ty::Int], &[Ty::Int])?;
+    let mut m = machine(alloc, &SUM, &stack, 536_870_896, sig)?;
     m.regs[1] = 61_440;
     m.regs[2] = 536_870_912;
     m.regs[27] = 536_870_912 - frame;
     let stop = run(&mut m, bound);
-    let result = match m.stack.get(32) {
-        Some(byte) => *byte,
-        None => 0,
-    };
-    Ok((stop, result))
+    Ok((stop, results(&m, 0)))
 }
 
 #[test]

@@ -1,7 +1,7 @@
 -- The bytes of words.
 use Rattle.std.proofs.Common.{◌≡◌, ℕ, ◌/◌, ◌%◌, List, [], ◌∷◌, ◌++◌, ap, ◌∙◌, sym, refl, arith, append_assoc}
 use Rattle.std.specs.Int.{to_le_bytes, w32}
-use Rattle.bk_rv_isa.specs.Bytes.{bytes}
+use Rattle.bk_num.specs.Bytes.{bytes}
 use Rattle.bk_top.specs.Code.{little_endian}
 
 -- std's four bytes are these

@@ -1,11 +1,12 @@
--- One more function of an image, and one more instruction of a function.
+-- One more routine of an image, and one more instruction of a routine.
 use Rattle.std.proofs.Common.{◌≡◌, ℕ, suc, ◌+◌, ◌<◌, List, ◌∷◌, ◌++◌, length, map, drop, get_or, All, ap, ◌∙◌, sym, subst, append_assoc, add-one, drop-cons, true}
 use Rattle.std.proofs.lemmas.List.{get_or-map, length-map}
 use Rattle.bk_rv_isa.specs.declared.inst.Inst.{Inst}
 use Rattle.bk_rv_isa.specs.Encoding.{fits, word}
-use Rattle.bk_rv_isa.specs.Bytes.{bytes}
+use Rattle.bk_num.specs.Bytes.{bytes}
 use Rattle.bk_top.specs.declared.narrow.package.Function.{Function}
 use Rattle.bk_top.specs.Narrow.{view, IsWellFormed}
+use Rattle.bk_top.specs.Routine.{RoutineRecord}
 use Rattle.bk_top.specs.Code.{code, words, image, little_endian, FitAll}
 use Rattle.bk_top.proofs.Bytes.{little_endian_append}
 
@@ -18,15 +19,16 @@ well_formed_at fs i f h lt is =
     let l : i < length (map view fs) = subst (λ n. i < n) (sym (length-map fs view)) lt in
     subst IsWellFormed (get_or-map view fs i f (view f) lt ∙ ap view (sym is)) (h i (view f) l)
 
-pub image_more : (fs : List Function) (i : ℕ) (f : Function) (before after whole : List ℕ) → i < length fs → f ≡ get_or fs i f
-    → after ≡ before ++ little_endian (map word (code (view f))) → before ++ image (map view (drop i fs)) ≡ whole → after ++ image (map view (drop (i + 1) fs)) ≡ whole
-image_more fs i f before after whole lt is wrote so_far =
-    let w = map word (code (view f)) in
-    let rest = words (map view (drop (i + 1) fs)) in
-    ap (λ l. l ++ little_endian rest) wrote
-    ∙ append_assoc before (little_endian w) (little_endian rest)
-    ∙ ap (λ l. before ++ l) (sym (little_endian_append w rest))
-    ∙ ap (λ l. before ++ image (map view l)) (sym (rest_is fs i f lt is))
+-- each function gives its routine
+pub image_more : {F : Type 0} (one : F → RoutineRecord) (all : List F → List RoutineRecord) → ((f : F) (fs : List F) → all (f ∷ fs) ≡ one f ∷ all fs) → (fs : List F) (i : ℕ) (f : F) (before after whole : List ℕ) → i < length fs → f ≡ get_or fs i f
+    → after ≡ before ++ little_endian (map word (code (one f))) → before ++ image (all (drop i fs)) ≡ whole → after ++ image (all (drop (i + 1) fs)) ≡ whole
+image_more one all each fs i f before after whole lt is wrote so_far =
+    let w = map word (code (one f)) in
+    let more = all (drop (i + 1) fs) in
+    ap (λ l. l ++ image more) wrote
+    ∙ append_assoc before (little_endian w) (image more)
+    ∙ ap (λ l. before ++ l) (sym (little_endian_append w (words more)))
+    ∙ ap (λ l. before ++ image l) (sym (ap all (rest_is fs i f lt is) ∙ each f (drop (i + 1) fs)))
     ∙ so_far
 
 pub words_more : (is : List Inst) (i : ℕ) (inst : Inst) (before after whole : List ℕ) → i < length is → inst ≡ get_or is i inst

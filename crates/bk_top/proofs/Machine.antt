@@ -6,7 +6,7 @@ use Rattle.bk_rv_isa.specs.declared.inst.LoadOp.TheVariants.{Ld}
 use Rattle.bk_rv_isa.specs.declared.inst.StoreOp.TheVariants.{Sd}
 use Rattle.bk_rv_isa.specs.declared.inst.BranchOp.TheVariants.{Bgeu}
 use Rattle.bk_rv_isa.specs.declared.inst.Inst.TheVariants.{Op, OpImm, Load, Store, Branch, Jalr}
-use Rattle.bk_rv_isa.specs.Bytes.{load_in, written}
+use Rattle.bk_num.specs.Bytes.{load_in, written}
 use Rattle.bk_rv_isa.specs.Machine.{Machine, IsPlaced, Leads, fetch, plus, put, reg}
 use Rattle.bk_rv_isa.proofs.Memory.{load_stack, store_stack}
 use Rattle.bk_rv_isa.proofs.Steps as Steps

@@ -1,33 +1,35 @@
--- The code of the values fills the slots.
-use Rattle.std.proofs.Common.{◌≡◌, ℕ, ◌+◌, ◌*◌, ◌%◌, ◌^◌, ◌<◌, ◌≤◌, ◌≢◌, List, [], ◌∷◌, ◌++◌, length, ap, ◌∙◌, subst, refl, arith, Some, pos, length-append}
+-- The code of the actions does what they say.
+use Rattle.std.proofs.Common.{◌≡◌, ℕ, ◌+◌, ◌*◌, ◌%◌, ◌^◌, ◌<◌, ◌≤◌, ◌≢◌, List, [], ◌∷◌, length, ap, ◌∙◌, sym, subst, refl, arith, Some, pos, length-append, All}
 use Rattle.std.specs.Prelude.{slice_index, slice_set}
 use Rattle.std.proofs.lemmas.List.{length-set}
+use Rattle.std.proofs.lemmas.List.Elements.{All-head, All-tail}
 use Rattle.bk_rv_isa.specs.declared.inst.StoreOp.TheVariants.{Sd}
-use Rattle.bk_rv_isa.specs.declared.inst.Inst.TheVariants.{Store}
-use Rattle.bk_rv_isa.specs.Bytes.{written}
-use Rattle.bk_rv_isa.specs.Machine.{Machine, HasAt, Leads, fetch, plus}
+use Rattle.bk_rv_isa.specs.declared.inst.LoadOp.TheVariants.{Ld}
+use Rattle.bk_rv_isa.specs.declared.inst.Inst.TheVariants.{Load, Store}
+use Rattle.bk_num.specs.Bytes.{written}
+use Rattle.bk_rv_isa.specs.Machine.{Machine, HasAt, Leads, fetch, plus, put}
 use Rattle.bk_rv_isa.proofs.Steps.{stays, then, has_front, has_back, same_reg, other_reg}
-use Rattle.bk_top.specs.declared.narrow.package.Value.{Value}
-use Rattle.bk_top.specs.declared.narrow.package.Value.TheVariants.{Argument, Sum}
-use Rattle.bk_top.specs.Narrow.{IsValue, AreValues}
-use Rattle.bk_top.specs.Meaning.{value_of, values_from}
+use Rattle.bk_top.specs.declared.routine.Action.{Action}
+use Rattle.bk_top.specs.declared.routine.Action.TheVariants.{Argument, Sum, Deliver}
+use Rattle.bk_top.specs.Routine.{IsWithin}
 use Rattle.bk_top.specs.Code.{unit, units}
 use Rattle.bk_top.specs.Runs.{AreWords}
 use Rattle.bk_top.proofs.Machine.{st, add, ld, sd}
-use Rattle.bk_top.proofs.Slots.{Holds, store_slot}
+use Rattle.bk_top.proofs.Effects.{slots_after, result_after, all_slots, all_result, length-slots}
+use Rattle.bk_top.proofs.Slots.{Holds, store_slot, store_result}
 
 -- the registers while a function runs
 pub record Good (sp : ℕ) (regs : List ℕ) : Type 0 where
   pub size : length regs ≡ 32
   pub stack : slice_index regs 2 ≡ sp
 
--- from the machine comes one at the pc, in whose slots the values stand
-pub record Reaches (text : List ℕ) (base : ℕ) (m : Machine) (pc sp f : ℕ) (args vals : List ℕ) : Type 0 where
+-- from the machine comes one at the pc, whose stack holds these slots and this result
+pub record Reaches (text : List ℕ) (base : ℕ) (m : Machine) (pc sp f : ℕ) (args ss : List ℕ) (r : ℕ) : Type 0 where
   pub regs : List ℕ
   pub mem : List ℕ
   pub leads : Leads m (st text base pc regs mem)
   pub good : Good sp regs
-  pub holds : Holds base sp f args vals mem
+  pub holds : Holds base sp f args ss r mem
 
 pub plus_pos : (n z : ℕ) → n + z < 2 ^ 64 → plus n (pos z) ≡ n + z
 plus_pos n z h = omega arith
@@ -40,29 +42,33 @@ set_good sp k v regs ne g = record { size = omega (arith, g.size, length-set {A 
 
 module _ (text : List ℕ) (base sp f : ℕ) (args : List ℕ) (high : 67108864 ≤ base) (room : sp + f + 8 * (length args + 1) < 2 ^ 63) (are_words : AreWords args) where
   -- a slot is written from register 5
-  end_unit : (pc n : ℕ) (m : Machine) (regs vals mem : List ℕ) → Leads m (st text base pc regs mem) → fetch text pc ≡ Some (Store Sd 5 2 (pos (8 * length vals))) → slice_index regs 5 ≡ n → n < 2 ^ 64 → Good sp regs → Holds base sp f args vals mem → 8 * length vals + 24 ≤ f → Reaches text base m (pc + 4) sp f args (vals ++ n ∷ [])
-  end_unit pc n m regs vals mem l h e lt g holds fits =
-      let a = sp + 8 * length vals in
+  to_slot : (pc n slot r : ℕ) (m : Machine) (regs ss mem : List ℕ) → Leads m (st text base pc regs mem) → fetch text pc ≡ Some (Store Sd 5 2 (pos (8 * slot))) → slice_index regs 5 ≡ n → n < 2 ^ 64 → slot < length ss → Good sp regs → Holds base sp f args ss r mem → Reaches text base m (pc + 4) sp f args (slice_set ss slot n) r
+  to_slot pc n slot r m regs ss mem l h e lt there g holds =
+      let a = sp + 8 * slot in
       record {
         regs = regs;
         mem = written base mem 8 a n;
-        leads = then m _ _ l (sd text base high pc regs mem 5 2 n a _ h (place regs sp (8 * length vals) a g.stack refl (omega arith)) e (omega (arith, holds.low)) (omega (arith, holds.size)));
+        leads = then m _ _ l (sd text base high pc regs mem 5 2 n a _ h (place regs sp (8 * slot) a g.stack refl (omega (arith, holds.room))) e (omega (arith, holds.low)) (omega (arith, holds.size, holds.room)));
         good = g;
-        holds = store_slot base sp f n args vals mem holds lt fits;
+        holds = store_slot base sp f n r slot args ss mem holds lt there;
       }
 
-  unit_run : (v : Value) (pc k : ℕ) (regs vals mem : List ℕ) → k ≡ length vals → HasAt text pc (unit f k v) → IsValue (length args) k v → Good sp regs → Holds base sp f args vals mem → 8 * length vals + 24 ≤ f → Reaches text base (st text base pc regs mem) (pc + 4 * length (unit f k v)) sp f args (vals ++ value_of args vals v ∷ [])
-  unit_run (Argument a) pc k regs vals mem e has ok g holds fits =
+  -- the word of a slot comes into a register
+  from_slot : (pc k slot r : ℕ) (regs ss mem : List ℕ) → fetch text pc ≡ Some (Load Ld k 2 (pos (8 * slot))) → slot < length ss → Good sp regs → Holds base sp f args ss r mem → Leads (st text base pc regs mem) (st text base (pc + 4) (put regs k (slice_index ss slot)) mem)
+  from_slot pc k slot r regs ss mem h there g holds =
+      ld text base high pc regs mem k 2 (slice_index ss slot) (sp + 8 * slot) _ h (place regs sp (8 * slot) (sp + 8 * slot) g.stack refl (omega (arith, holds.room))) (omega (arith, holds.low)) (holds.slots slot there)
+
+  unit_run : (act : Action) (pc r : ℕ) (regs ss mem : List ℕ) → HasAt text pc (unit f (length args) act) → IsWithin (length args) (length ss) act → Good sp regs → Holds base sp f args ss r mem → Reaches text base (st text base pc regs mem) (pc + 4 * length (unit f (length args) act)) sp f args (slots_after args ss act) (result_after ss r act)
+  unit_run (Argument a slot) pc r regs ss mem has ok g holds =
       let n = slice_index args a in
       let regs1 = slice_set regs 5 n in
-      let l : Leads (st text base pc regs mem) (st text base (pc + 4) regs1 mem) = ld text base high pc regs mem 5 2 n (sp + f + 8 * a) _ has.0 (place regs sp (f + 8 * a) (sp + f + 8 * a) g.stack (omega arith) (omega arith)) (omega (arith, holds.low)) (holds.given a ok) in
-      let h : fetch text (pc + 4) ≡ Some (Store Sd 5 2 (pos (8 * length vals))) = has.1.0 ∙ ap (λ j. Some (Store Sd 5 2 (pos (8 * j)))) e in
-      let r = end_unit (pc + 4) n (st text base pc regs mem) regs1 vals mem l h (same_reg regs 5 n (omega (arith, g.size))) (are_words a) (set_good sp 5 n regs (λ q. omega arith) g) holds fits in
-      let p : pc + 4 + 4 ≡ pc + 4 * length (unit f k (Argument a)) = omega arith in
-      subst (λ q. Reaches text base (st text base pc regs mem) q sp f args (vals ++ n ∷ [])) p r
-  unit_run (Sum i j) pc k regs vals mem e has ok g holds fits =
-      let x = slice_index vals i in
-      let y = slice_index vals j in
+      let l : Leads (st text base pc regs mem) (st text base (pc + 4) regs1 mem) = ld text base high pc regs mem 5 2 n (sp + f + 8 * a) _ has.0 (place regs sp (f + 8 * a) (sp + f + 8 * a) g.stack (omega arith) (omega (arith, ok.0))) (omega (arith, holds.low)) (holds.given a ok.0) in
+      let q = to_slot (pc + 4) n slot r (st text base pc regs mem) regs1 ss mem l has.1.0 (same_reg regs 5 n (omega (arith, g.size))) (are_words a) ok.1 (set_good sp 5 n regs (λ q. omega arith) g) holds in
+      let p : pc + 4 + 4 ≡ pc + 4 * length (unit f (length args) (Argument a slot)) = omega arith in
+      subst (λ q. Reaches text base (st text base pc regs mem) q sp f args (slice_set ss slot n) r) p q
+  unit_run (Sum i j slot) pc r regs ss mem has ok g holds =
+      let x = slice_index ss i in
+      let y = slice_index ss j in
       let n = (x + y) % 2 ^ 64 in
       let m = st text base pc regs mem in
       let regs1 = slice_set regs 5 x in
@@ -71,32 +77,40 @@ module _ (text : List ℕ) (base sp f : ℕ) (args : List ℕ) (high : 67108864 
       let g1 = set_good sp 5 x regs (λ q. omega arith) g in
       let g2 = set_good sp 6 y regs1 (λ q. omega arith) g1 in
       let g3 = set_good sp 5 n regs2 (λ q. omega arith) g2 in
-      let lx : i < length vals = omega (arith, ok.0) in
-      let ly : j < length vals = omega (arith, ok.1) in
-      let l1 : Leads m (st text base (pc + 4) regs1 mem) = ld text base high pc regs mem 5 2 x (sp + 8 * i) _ has.0 (place regs sp (8 * i) (sp + 8 * i) g.stack refl (omega (arith, holds.room))) (omega (arith, holds.low)) (holds.slots i lx) in
-      let l2 : Leads (st text base (pc + 4) regs1 mem) (st text base (pc + 4 + 4) regs2 mem) = ld text base high (pc + 4) regs1 mem 6 2 y (sp + 8 * j) _ has.1.0 (place regs1 sp (8 * j) (sp + 8 * j) g1.stack refl (omega (arith, holds.room))) (omega (arith, holds.low)) (holds.slots j ly) in
+      let l1 : Leads m (st text base (pc + 4) regs1 mem) = from_slot pc 5 i r regs ss mem has.0 ok.0 g holds in
+      let l2 : Leads (st text base (pc + 4) regs1 mem) (st text base (pc + 4 + 4) regs2 mem) = from_slot (pc + 4) 6 j r regs1 ss mem has.1.0 ok.1 g1 holds in
       let r5 : slice_index regs2 5 ≡ x = other_reg regs1 6 5 y (λ q. omega arith) ∙ same_reg regs 5 x (omega (arith, g.size)) in
       let r6 : slice_index regs2 6 ≡ y = same_reg regs1 6 y (omega (arith, g1.size)) in
       let l3 : Leads (st text base (pc + 4 + 4) regs2 mem) (st text base (pc + 4 + 4 + 4) regs3 mem) = add text base high (pc + 4 + 4) regs2 mem 5 5 6 n has.1.1.0 (ap (λ a. (a + slice_index regs2 6) % 2 ^ 64) r5 ∙ ap (λ b. (x + b) % 2 ^ 64) r6) in
-      let h : fetch text (pc + 4 + 4 + 4) ≡ Some (Store Sd 5 2 (pos (8 * length vals))) = has.1.1.1.0 ∙ ap (λ j. Some (Store Sd 5 2 (pos (8 * j)))) e in
       let l = then m _ _ (then m _ _ l1 l2) l3 in
-      let r = end_unit (pc + 4 + 4 + 4) n m regs3 vals mem l h (same_reg regs2 5 n (omega (arith, g2.size))) (omega arith) g3 holds fits in
-      let p : pc + 4 + 4 + 4 + 4 ≡ pc + 4 * length (unit f k (Sum i j)) = omega arith in
-      subst (λ q. Reaches text base m q sp f args (vals ++ n ∷ [])) p r
+      let q = to_slot (pc + 4 + 4 + 4) n slot r m regs3 ss mem l has.1.1.1.0 (same_reg regs2 5 n (omega (arith, g2.size))) (omega arith) ok.2 g3 holds in
+      let p : pc + 4 + 4 + 4 + 4 ≡ pc + 4 * length (unit f (length args) (Sum i j slot)) = omega arith in
+      subst (λ q. Reaches text base m q sp f args (slice_set ss slot n) r) p q
+  unit_run (Deliver slot) pc r regs ss mem has ok g holds =
+      let n = slice_index ss slot in
+      let m = st text base pc regs mem in
+      let regs1 = slice_set regs 5 n in
+      let a = sp + f + 8 * length args in
+      let g1 = set_good sp 5 n regs (λ q. omega arith) g in
+      let l1 : Leads m (st text base (pc + 4) regs1 mem) = from_slot pc 5 slot r regs ss mem has.0 ok g holds in
+      let l2 : Leads (st text base (pc + 4) regs1 mem) (st text base (pc + 4 + 4) regs1 (written base mem 8 a n)) = sd text base high (pc + 4) regs1 mem 5 2 n a _ has.1.0 (place regs1 sp (f + 8 * length args) a g1.stack (omega arith) (omega arith)) (same_reg regs 5 n (omega (arith, g.size))) (omega (arith, holds.low)) (omega (arith, holds.size)) in
+      let p : pc + 4 + 4 ≡ pc + 4 * length (unit f (length args) (Deliver slot)) = omega arith in
+      let q : Reaches text base m (pc + 4 + 4) sp f args ss n = record { regs = regs1; mem = written base mem 8 a n; leads = then m _ _ l1 l2; good = g1; holds = store_result base sp f n r args ss mem holds (holds.words slot) } in
+      subst (λ q. Reaches text base m q sp f args ss n) p q
 
-  after : (m m1 : Machine) (pc : ℕ) (vals : List ℕ) → Leads m m1 → Reaches text base m1 pc sp f args vals → Reaches text base m pc sp f args vals
-  after m m1 pc vals l r = record { regs = r.regs; mem = r.mem; leads = then m m1 _ l r.leads; good = r.good; holds = r.holds }
+  after : (m m1 : Machine) (pc r : ℕ) (ss : List ℕ) → Leads m m1 → Reaches text base m1 pc sp f args ss r → Reaches text base m pc sp f args ss r
+  after m m1 pc r ss l q = record { regs = q.regs; mem = q.mem; leads = then m m1 _ l q.leads; good = q.good; holds = q.holds }
 
-  pub units_run : (vs : List Value) (pc k : ℕ) (regs vals mem : List ℕ) → k ≡ length vals → HasAt text pc (units f k vs) → AreValues (length args) k vs → Good sp regs → Holds base sp f args vals mem → 8 * (length vals + length vs) + 16 ≤ f → Reaches text base (st text base pc regs mem) (pc + 4 * length (units f k vs)) sp f args (values_from args vals vs)
-  units_run [] pc k regs vals mem e has ok g holds fits =
-      let p : pc ≡ pc + 4 * length (units f k []) = omega arith in
-      subst (λ q. Reaches text base (st text base pc regs mem) q sp f args vals) p (record { regs = regs; mem = mem; leads = stays (st text base pc regs mem); good = g; holds = holds })
-  units_run (v ∷ vs) pc k regs vals mem e has ok g holds fits =
-      let n = value_of args vals v in
-      let here = has_front (unit f k v) (units f (k + 1) vs) text pc has in
-      let rest = has_back (unit f k v) (units f (k + 1) vs) text pc has in
-      let r = unit_run v pc k regs vals mem e here ok.0 g holds (omega arith) in
-      let len = length-append vals (n ∷ []) in
-      let q = units_run vs (pc + 4 * length (unit f k v)) (k + 1) r.regs (vals ++ n ∷ []) r.mem (omega (arith, len)) rest ok.1 r.good r.holds (omega (arith, len)) in
-      let p : pc + 4 * length (unit f k v) + 4 * length (units f (k + 1) vs) ≡ pc + 4 * length (units f k (v ∷ vs)) = omega (arith, length-append (unit f k v) (units f (k + 1) vs)) in
-      subst (λ pc'. Reaches text base (st text base pc regs mem) pc' sp f args (values_from args vals (v ∷ vs))) p (after (st text base pc regs mem) _ _ _ r.leads q)
+  pub units_run : (acts : List Action) (pc r : ℕ) (regs ss mem : List ℕ) → HasAt text pc (units f (length args) acts) → All (IsWithin (length args) (length ss)) acts → Good sp regs → Holds base sp f args ss r mem → Reaches text base (st text base pc regs mem) (pc + 4 * length (units f (length args) acts)) sp f args (all_slots args ss acts) (all_result args ss r acts)
+  units_run [] pc r regs ss mem has ok g holds =
+      let p : pc ≡ pc + 4 * length (units f (length args) []) = omega arith in
+      subst (λ q. Reaches text base (st text base pc regs mem) q sp f args ss r) p (record { regs = regs; mem = mem; leads = stays (st text base pc regs mem); good = g; holds = holds })
+  units_run (act ∷ acts) pc r regs ss mem has ok g holds =
+      let n = length args in
+      let here = has_front (unit f n act) (units f n acts) text pc has in
+      let rest = has_back (unit f n act) (units f n acts) text pc has in
+      let one = unit_run act pc r regs ss mem here (All-head (IsWithin n (length ss)) act acts ok) g holds in
+      let more : All (IsWithin n (length (slots_after args ss act))) acts = subst (λ k. All (IsWithin n k) acts) (sym (length-slots args ss act)) (All-tail (IsWithin n (length ss)) act acts ok) in
+      let q = units_run acts (pc + 4 * length (unit f n act)) (result_after ss r act) one.regs (slots_after args ss act) one.mem rest more one.good one.holds in
+      let p : pc + 4 * length (unit f n act) + 4 * length (units f n acts) ≡ pc + 4 * length (units f n (act ∷ acts)) = omega (arith, length-append (unit f n act) (units f n acts)) in
+      subst (λ pc'. Reaches text base (st text base pc regs mem) pc' sp f args (all_slots args ss (act ∷ acts)) (all_result args ss r (act ∷ acts))) p (after (st text base pc regs mem) _ _ _ _ one.leads q)

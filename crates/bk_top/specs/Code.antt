@@ -1,5 +1,5 @@
--- The code of narrow functions: a slot for each value, numbered by rising value number.
-use Rattle.std.specs.Prelude.{◌≡◌, true, ℕ, pos, neg_ℤ, ◌+◌, ◌-◌, ◌*◌, List, [], ◌∷◌, ◌++◌, length, map}
+-- The code of routines.
+use Rattle.std.specs.Prelude.{◌≡◌, true, ℕ, pos, neg_ℤ, ◌+◌, ◌-◌, ◌*◌, List, [], ◌∷◌, ◌++◌, map}
 use Rattle.bk_rv_isa.specs.declared.inst.RegisterOp.TheVariants.{Add}
 use Rattle.bk_rv_isa.specs.declared.inst.ImmediateOp.TheVariants.{Addi}
 use Rattle.bk_rv_isa.specs.declared.inst.LoadOp.TheVariants.{Ld}
@@ -8,14 +8,14 @@ use Rattle.bk_rv_isa.specs.declared.inst.BranchOp.TheVariants.{Bgeu}
 use Rattle.bk_rv_isa.specs.declared.inst.Inst.{Inst}
 use Rattle.bk_rv_isa.specs.declared.inst.Inst.TheVariants.{Op, OpImm, Load, Store, Branch, Jalr, Ebreak}
 use Rattle.bk_rv_isa.specs.Encoding.{word, fits}
-use Rattle.bk_rv_isa.specs.Bytes.{bytes}
-use Rattle.bk_top.specs.declared.narrow.package.Value.{Value}
-use Rattle.bk_top.specs.declared.narrow.package.Value.TheVariants.{Argument, Sum}
-use Rattle.bk_top.specs.Narrow.{Narrow}
+use Rattle.bk_num.specs.Bytes.{bytes}
+use Rattle.bk_top.specs.declared.routine.Action.{Action}
+use Rattle.bk_top.specs.declared.routine.Action.TheVariants.{Argument, Sum, Deliver}
+use Rattle.bk_top.specs.Routine.{RoutineRecord}
 
 -- the frame's bytes: a word for each slot, the swap word and the return address
-abbrev pub frame : List Value → ℕ
-frame vs = 8 * (length vs + 2)
+abbrev pub frame : ℕ → ℕ
+frame slots = 8 * (slots + 2)
 
 -- trap 5 where the frame exceeds the stack that is left, else the frame is made and the return address saved
 abbrev pub entry : ℕ → List Inst
@@ -28,45 +28,37 @@ entry f =
     ∷ Store Sd 1 2 (pos (f - 8))
     ∷ []
 
--- the value of slot k: its arguments are loaded into x5 and x6, and x5 is stored to the slot
-abbrev pub unit : ℕ → ℕ → Value → List Inst
-unit f k (Argument place) = Load Ld 5 2 (pos (f + 8 * place)) ∷ Store Sd 5 2 (pos (8 * k)) ∷ []
-unit f k (Sum i j) = Load Ld 5 2 (pos (8 * i)) ∷ Load Ld 6 2 (pos (8 * j)) ∷ Op Add 5 5 6 ∷ Store Sd 5 2 (pos (8 * k)) ∷ []
+-- what an action reads is loaded into x5 and x6, and x5 is stored: to a slot, or to the result's word behind the n arguments' words
+abbrev pub unit : ℕ → ℕ → Action → List Inst
+unit f n (Argument place slot) = Load Ld 5 2 (pos (f + 8 * place)) ∷ Store Sd 5 2 (pos (8 * slot)) ∷ []
+unit f n (Sum left right slot) =
+    Load Ld 5 2 (pos (8 * left)) ∷ Load Ld 6 2 (pos (8 * right)) ∷ Op Add 5 5 6 ∷ Store Sd 5 2 (pos (8 * slot)) ∷ []
+unit f n (Deliver slot) = Load Ld 5 2 (pos (8 * slot)) ∷ Store Sd 5 2 (pos (f + 8 * n)) ∷ []
 
--- the units of the values from slot k on
-abbrev pub units : ℕ → ℕ → List Value → List Inst
-units f k [] = []
-units f k (v ∷ vs) = unit f k v ++ units f (k + 1) vs
+abbrev pub units : ℕ → ℕ → List Action → List Inst
+units f n [] = []
+units f n (a ∷ more) = unit f n a ++ units f n more
 
--- the result goes to its word behind the arguments' words, and the function returns
-abbrev pub ending : ℕ → ℕ → ℕ → List Inst
-ending f result arguments =
-    Load Ld 5 2 (pos (8 * result))
-    ∷ Store Sd 5 2 (pos (f + 8 * arguments))
-    ∷ Load Ld 1 2 (pos (f - 8))
-    ∷ OpImm Addi 2 2 (pos f)
-    ∷ Jalr 0 1 (pos 0)
-    ∷ []
+-- the return address is loaded, the frame given back, and the function returns
+abbrev pub ending : ℕ → List Inst
+ending f = Load Ld 1 2 (pos (f - 8)) ∷ OpImm Addi 2 2 (pos f) ∷ Jalr 0 1 (pos 0) ∷ []
 
-abbrev pub code_of : ℕ → List Value → ℕ → List Inst
-code_of arguments vs result = entry (frame vs) ++ (units (frame vs) 0 vs ++ ending (frame vs) result arguments)
+abbrev pub code : RoutineRecord → List Inst
+code r = entry (frame r.slots) ++ (units (frame r.slots) r.arguments r.actions ++ ending (frame r.slots))
 
-abbrev pub code : Narrow → List Inst
-code f = code_of (length f.parameters) f.values f.result
-
--- the words of functions, one behind the other
-abbrev pub words : List Narrow → List ℕ
+-- the words of routines, one behind the other
+abbrev pub words : List RoutineRecord → List ℕ
 words [] = []
-words (f ∷ fs) = map word (code f) ++ words fs
+words (r ∷ rs) = map word (code r) ++ words rs
 
 -- words as bytes, the low byte first
 unfoldable pub little_endian : List ℕ → List ℕ
 little_endian [] = []
 little_endian (w ∷ ws) = bytes 4 w ++ little_endian ws
 
--- the image: the words of all functions, and nothing else
-abbrev pub image : List Narrow → List ℕ
-image fs = little_endian (words fs)
+-- the image: the words of all routines, and nothing else
+abbrev pub image : List RoutineRecord → List ℕ
+image rs = little_endian (words rs)
 
 -- each instruction has a word
 abbrev pub FitAll : List Inst → Type 0

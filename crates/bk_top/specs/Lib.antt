@@ -3,6 +3,10 @@ pub mod Words
 pub mod Decimal
 pub mod Reading
 pub mod Narrow
+pub mod Commands
+pub mod Refusals
+pub mod Sums
+pub mod Routine
 pub mod Meaning
 pub mod Code
 pub mod Runs

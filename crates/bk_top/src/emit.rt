@@ -1,10 +1,12 @@
-ghost use Rattle.std.specs.Prelude.{◌≡◌, ℕ, ◌+◌, ◌-◌, ◌*◌, ◌≤◌, ◌<◌, ◌++◌, [], ◌∷◌, length, map, ◌^◌, List, vec_len, OnOk, IfOk, IsTrue, All};
-ghost use Rattle.bk_rv_isa.specs.Encoding.{fits, word};
-ghost use Rattle.bk_rv_isa.specs.Bytes.{bytes};
-ghost use Rattle.bk_top.specs.Narrow.{view, IsWellFormed};
-ghost use Rattle.bk_top.specs.Code.{frame, entry, unit, units, ending, code, words, image, little_endian, FitAll};
+//! The code of routines.
 
-use crate::narrow::{Function, Value};
+ghost use Rattle.std.specs.Prelude.{◌≡◌, ◌*◌, ◌≤◌, ◌++◌, [], ◌∷◌, pos, map, OnOk, IfOk, IsTrue, All};
+ghost use Rattle.bk_rv_isa.specs.Encoding.{fits, word};
+ghost use Rattle.bk_num.specs.Bytes.{bytes};
+ghost use Rattle.bk_top.specs.Routine.{IsWithin, FitsFrame};
+ghost use Rattle.bk_top.specs.Code.{frame, entry, unit, units, ending, code, little_endian, FitAll};
+
+use crate::routine::{Action, Routine};
 use bk_rv_isa::{BranchOp, ImmediateOp, Inst, LoadOp, RegisterOp, StoreOp, encode};
 use std::alloc::{AllocError, Global};
 
@@ -16,11 +18,11 @@ fn put(code: &mut Vec<Inst>, inst: Inst) -> Result<(), AllocError>
     Ok(())
 }
 
-fn emit_entry(code: &mut Vec<Inst>, frame: u32) -> Result<(), AllocError>
+fn emit_entry(code: &mut Vec<Inst>, frame: usize) -> Result<(), AllocError>
     requires { (16 ≤ frame) × (frame ≤ 2040) }
     ensures { OnOk result (code.new.items ≡ code.old.items ++ entry frame) }
 {
-    let size = i64::from(frame);
+    let size = frame as i64;
     put(code, Inst::OpImm(ImmediateOp::Addi, 31, 2, -size))?;
     put(code, Inst::Branch(BranchOp::Bgeu, 31, 27, 12))?;
     put(code, Inst::OpImm(ImmediateOp::Addi, 31, 0, 5))?;
@@ -29,72 +31,92 @@ fn emit_entry(code: &mut Vec<Inst>, frame: u32) -> Result<(), AllocError>
     put(code, Inst::Store(StoreOp::Sd, 1, 2, size - 8))
 }
 
-fn emit_unit(code: &mut Vec<Inst>, frame: u32, slot: u32, value: Value) -> Result<(), AllocError>
-    requires { (frame ≤ 2040) × (slot ≤ 250) }
-    ensures { OnOk result (code.new.items ≡ code.old.items ++ unit frame slot value) }
+/// The word of a slot goes to a register.
+fn load_slot(code: &mut Vec<Inst>, register: u8, slot: usize) -> Result<(), AllocError>
+    requires { slot ≤ 250 }
+    ensures { OnOk result (code.new.items ≡ code.old.items ++ Inst.Load LoadOp.Ld register 2 (pos (8 * slot)) ∷ []) }
 {
-    match value {
-        Value::Argument(place) => {
+    put(code, Inst::Load(LoadOp::Ld, register, 2, 8 * slot as i64))
+}
+
+/// Register 5 goes to the word of a slot.
+fn store_slot(code: &mut Vec<Inst>, slot: usize) -> Result<(), AllocError>
+    requires { slot ≤ 250 }
+    ensures { OnOk result (code.new.items ≡ code.old.items ++ Inst.Store StoreOp.Sd 5 2 (pos (8 * slot)) ∷ []) }
+{
+    put(code, Inst::Store(StoreOp::Sd, 5, 2, 8 * slot as i64))
+}
+
+fn emit_unit(
+    code: &mut Vec<Inst>,
+    frame: usize,
+    arguments: usize,
+    action: Action,
+) -> Result<(), AllocError>
+    requires sizes { (frame ≤ 2040) × (arguments ≤ 63) }
+    requires within { IsWithin arguments 100 action }
+    ensures { OnOk result (code.new.items ≡ code.old.items ++ unit frame arguments action) }
+{
+    match action {
+        Action::Argument { place, slot } => {
             put(
                 code,
                 Inst::Load(LoadOp::Ld, 5, 2, frame as i64 + 8 * place as i64),
             )?;
-            put(code, Inst::Store(StoreOp::Sd, 5, 2, 8 * slot as i64))
+            store_slot(code, slot)
         }
-        Value::Sum(i, j) => {
-            put(code, Inst::Load(LoadOp::Ld, 5, 2, 8 * i as i64))?;
-            put(code, Inst::Load(LoadOp::Ld, 6, 2, 8 * j as i64))?;
+        Action::Sum { left, right, slot } => {
+            load_slot(code, 5, left)?;
+            load_slot(code, 6, right)?;
             put(code, Inst::Op(RegisterOp::Add, 5, 5, 6))?;
-            put(code, Inst::Store(StoreOp::Sd, 5, 2, 8 * slot as i64))
+            store_slot(code, slot)
+        }
+        Action::Deliver { slot } => {
+            load_slot(code, 5, slot)?;
+            put(
+                code,
+                Inst::Store(StoreOp::Sd, 5, 2, frame as i64 + 8 * arguments as i64),
+            )
         }
     }
 }
 
-fn emit_ending(
-    code: &mut Vec<Inst>,
-    frame: u32,
-    result_slot: u8,
-    arguments: u32,
-) -> Result<(), AllocError>
-    requires { (16 ≤ frame) × (frame ≤ 2040) × (arguments ≤ 63) }
-    ensures { OnOk result (code.new.items ≡ code.old.items ++ ending frame result_slot arguments) }
+fn emit_ending(code: &mut Vec<Inst>, frame: usize) -> Result<(), AllocError>
+    requires { (16 ≤ frame) × (frame ≤ 2040) }
+    ensures { OnOk result (code.new.items ≡ code.old.items ++ ending frame) }
 {
-    let size = i64::from(frame);
-    put(code, Inst::Load(LoadOp::Ld, 5, 2, 8 * result_slot as i64))?;
-    put(
-        code,
-        Inst::Store(StoreOp::Sd, 5, 2, size + 8 * arguments as i64),
-    )?;
+    let size = frame as i64;
     put(code, Inst::Load(LoadOp::Ld, 1, 2, size - 8))?;
     put(code, Inst::OpImm(ImmediateOp::Addi, 2, 2, size))?;
     put(code, Inst::Jalr(0, 1, 0))
 }
 
-fn emit_units(code: &mut Vec<Inst>, frame: u32, values: &[Value]) -> Result<(), AllocError>
-    requires { (frame ≤ 2040) × (length values.now ≤ 250) }
-    ensures { OnOk result (code.new.items ≡ code.old.items ++ units frame 0 values.now) }
+fn emit_units(
+    code: &mut Vec<Inst>,
+    frame: usize,
+    arguments: usize,
+    actions: &[Action],
+) -> Result<(), AllocError>
+    requires sizes { (frame ≤ 2040) × (arguments ≤ 63) }
+    requires within { All (IsWithin arguments 100) actions.now }
+    ensures { OnOk result (code.new.items ≡ code.old.items ++ units frame arguments actions.now) }
 {
-    for (slot, value) in values.iter().enumerate() {
-        emit_unit(code, frame, slot as u32, *value)?;
+    for action in actions {
+        emit_unit(code, frame, arguments, *action)?;
     }
     Ok(())
 }
 
-/// The instructions of a function.
-fn emit(alloc: Global, function: &Function) -> Result<Vec<Inst>, AllocError>
-    requires { IsWellFormed (view function.now) }
-    ensures { IfOk result (λ is. is.items ≡ code (view function.now)) }
+/// The instructions of a routine.
+fn emit(alloc: Global, routine: &Routine) -> Result<Vec<Inst>, AllocError>
+    requires { FitsFrame routine.now }
+    ensures { IfOk result (λ is. is.items ≡ code routine.now) }
 {
     let mut code = Vec::new(alloc);
-    let frame = 8 * (function.values.len() as u32 + 2);
+    let frame = 8 * (routine.slots + 2);
     emit_entry(&mut code, frame)?;
-    emit_units(&mut code, frame, &function.values)?;
-    emit_ending(
-        &mut code,
-        frame,
-        function.result,
-        function.parameters.len() as u32,
-    )?;
+    emit_units(&mut code, frame, routine.arguments, &routine.actions)?;
+    emit_ending(&mut code, frame)?;
     Ok(code)
 }
 
@@ -125,16 +147,11 @@ fn put_words(out: &mut Vec<u8>, code: &[Inst]) -> Result<(), AllocError>
     Ok(())
 }
 
-/// The image of a package's functions: their words one behind the other, the low byte first.
-#[tactic(auto, unfolding(crate::specs::Code::little_endian))]
-pub fn image(alloc: Global, functions: &[Function]) -> Result<Vec<u8>, AllocError>
-    requires { All IsWellFormed (map view functions.now) }
-    ensures { IfOk result (λ bytes. bytes.items ≡ image (map view functions.now)) }
+/// Adds the words of a routine's code, the low byte first.
+pub fn put_routine(alloc: Global, out: &mut Vec<u8>, routine: &Routine) -> Result<(), AllocError>
+    requires { FitsFrame routine.now }
+    ensures { OnOk result (out.new.items ≡ out.old.items ++ little_endian (map word (code routine.now))) }
 {
-    let mut out = Vec::new(alloc);
-    for function in functions {
-        let code = emit(alloc, function)?;
-        put_words(&mut out, &code)?;
-    }
-    Ok(out)
+    let code = emit(alloc, routine)?;
+    put_words(out, &code)
 }

@@ -1,10 +1,17 @@
 //! The top call of the compiler back end: words, an input and its output.
 #![tactic(auto)]
 
+mod answer;
+mod command;
 mod emit;
+mod line;
 mod narrow;
 mod program;
 mod refusal;
+mod routine;
+mod rows;
+mod sums;
+mod tell;
 mod text;
 
 pub use program::backend;

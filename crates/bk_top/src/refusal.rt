@@ -1,15 +1,45 @@
+//! Why the program did not do what its words ask.
+
 ghost use Rattle.std.specs.Prelude.{◌≡◌};
-ghost use Rattle.bk_top.specs.Answer.{status, line};
+ghost use Rattle.bk_top.specs.Refusals.{status};
+
+use bk_dump::{DumpError, Which};
+use bk_form::{FormKind, Place};
 
 /// Why the program did not do what its words ask.
-#[derive(Clone, Copy, PartialEq, Eq, Debug)]
+#[derive(Drop, Debug)]
 pub enum Refusal {
     /// The words stand in no row.
     Words,
-    /// The text is none of the narrow texts.
-    NotYet,
     /// A read failed.
     ReadFault,
+    /// The input has more bytes than its limit.
+    TooLong,
+    /// The first line of the text outside the grammar.
+    Syntax {
+        line: u64,
+    },
+    /// The first line of the text past a limit.
+    Limit {
+        which: Which,
+        line: u64,
+    },
+    /// The first line of the text that declares a name or a number again.
+    Duplicate {
+        line: u64,
+    },
+    /// What the first reference of the text that names nothing says.
+    Undefined {
+        name: String,
+    },
+    /// The first function that is not in form, and where it is not.
+    FormFault {
+        func: String,
+        kind: FormKind,
+        place: Place,
+    },
+    /// No code is made of such a package yet.
+    NotYet,
     /// A write failed.
     WriteFault,
     /// There was no memory.
@@ -17,27 +47,20 @@ pub enum Refusal {
 }
 
 /// The program's status after the refusal.
-pub fn status(refusal: Refusal) -> u8
-    ensures { result ≡ status refusal }
+pub fn status(refusal: &Refusal) -> u8
+    ensures { result ≡ status refusal.now }
 {
     match refusal {
         Refusal::Words => 2,
-        Refusal::NotYet => 3,
+        Refusal::TooLong
+        | Refusal::Syntax { .. }
+        | Refusal::Limit { .. }
+        | Refusal::Duplicate { .. }
+        | Refusal::Undefined { .. }
+        | Refusal::FormFault { .. }
+        | Refusal::NotYet => 3,
         Refusal::ReadFault => 4,
         Refusal::WriteFault => 5,
         Refusal::Memory => 6,
-    }
-}
-
-/// The refusal's line on the error stream.
-pub fn line(refusal: Refusal) -> &'static [u8]
-    ensures { result.now ≡ line refusal }
-{
-    match refusal {
-        Refusal::Words => b"words\n",
-        Refusal::NotYet => b"not yet\n",
-        Refusal::ReadFault => b"read fault\n",
-        Refusal::WriteFault => b"write fault\n",
-        Refusal::Memory => b"memory\n",
     }
 }

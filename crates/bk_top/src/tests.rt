@@ -1,126 +1,81 @@
 //! The program over objects in memory: its rows, its refusals and its faults.
 
+mod texts;
+
 use crate::backend;
 use bk_io::{MemSink, MemSource, Memory, Open};
 use std::alloc::{AllocError, Global};
 use std::test::Fail;
+use texts::{ADD, ADD_CODE, CONSTANT, DROPPED, LOOP, NO_SUCH, TURNED, TURNED_CODE, TWICE, USE};
 
-/// A sum of two arguments.
-const ADD: &str =
-    "add func(a int, b int) int\nb1:\nv1 = InitMem <mem>\nv2 = Arg <int> {a}\nv3 = Arg <int> {b}\nv4 = Add64 <int> v2 v3\nv5 = MakeResult <int,mem> v4 v1\nRet v5\n";
+/// The words, the input, and what they leave: the status and the texts on the output and on the error stream.
+struct Row(&'static str, &'static str, u8, &'static str, &'static str);
 
-/// The words of the sum's code.
-const ADD_CODE: [u32; 19] = [
-    0xfd810f93, 0x01bff663, 0x00500f93, 0x00100073, 0x000f8113, 0x02113023, 0x02813283, 0x00513023,
-    0x03013283, 0x00513423, 0x00013283, 0x00813303, 0x006282b3, 0x00513823, 0x01013283, 0x02513c23,
-    0x02013083, 0x02810113, 0x00008067,
+const TEXTS: [Row; 23] = [
+    Row("check arm", "", 0, "ok 0 functions 0 values\n", ""),
+    Row("check riscv64", ADD, 0, "ok 1 functions 5 values\n", ""),
+    Row(
+        "check riscv64",
+        DROPPED,
+        0,
+        "ok 1 functions 10 values\n",
+        "",
+    ),
+    Row("check riscv64", LOOP, 0, "ok 1 functions 17 values\n", ""),
+    Row(
+        "check riscv64",
+        "add func(a int) int\nb1:\nv1 = Init\n",
+        3,
+        "",
+        "line 3: syntax\n",
+    ),
+    Row("check riscv64", USE, 3, "", "function u: form use v4\n"),
+    Row("check riscv64", TWICE, 3, "", "line 4: duplicate\n"),
+    Row("check riscv64", NO_SUCH, 3, "", "undefined nosuch\n"),
+    Row(
+        "check riscv64",
+        "var a 1048577\n",
+        3,
+        "",
+        "line 1: limit window\n",
+    ),
+    Row("compile riscv64 1", "", 0, "", ""),
+    Row("compile riscv64 1", "x", 3, "", "line 1: syntax\n"),
+    Row("compile riscv64 1", TWICE, 3, "", "line 4: duplicate\n"),
+    Row("compile riscv64 1", CONSTANT, 3, "", "not yet\n"),
+    Row("compile riscv64 1", LOOP, 3, "", "not yet\n"),
+    Row("compile mips 1", ADD, 2, "", "words\n"),
+    Row("compile riscv64 2", ADD, 2, "", "words\n"),
+    Row("compile riscv64 1 (Add64", ADD, 2, "", "words\n"),
+    Row("check", ADD, 2, "", "words\n"),
+    Row("check mips", ADD, 2, "", "words\n"),
+    Row("gen 0", "", 2, "", "words\n"),
+    Row("gen 4097", "", 2, "", "words\n"),
+    Row("gen 01", "", 2, "", "words\n"),
+    Row("gen +1", "", 2, "", "words\n"),
 ];
 
-/// One run of the program, and what it leaves.
-struct Run {
-    words: &'static str,
-    input: &'static str,
-    read_fails: u64,
+/// Where reads and writes fail: the number of a read, and the room of the sinks.
+#[derive(Clone, Copy)]
+struct Failing {
+    read: u64,
     room: usize,
-    status: u8,
-    out: usize,
-    err: &'static str,
+    error_room: usize,
 }
 
-const NONE: u64 = u64::MAX;
+const NO_FAULT: Failing = Failing {
+    read: u64::MAX,
+    room: 5000,
+    error_room: 100,
+};
 
-const RUNS: [Run; 10] = [
-    Run {
-        words: "compile riscv64 1",
-        input: ADD,
-        read_fails: NONE,
-        room: 1000,
-        status: 0,
-        out: 76,
-        err: "",
-    },
-    Run {
-        words: "compile riscv64 1",
-        input: "",
-        read_fails: NONE,
-        room: 1000,
-        status: 0,
-        out: 0,
-        err: "",
-    },
-    Run {
-        words: "compile riscv64 1",
-        input: "x",
-        read_fails: NONE,
-        room: 1000,
-        status: 3,
-        out: 0,
-        err: "not yet\n",
-    },
-    Run {
-        words: "compile riscv64 1",
-        input: ADD,
-        read_fails: 0,
-        room: 1000,
-        status: 4,
-        out: 0,
-        err: "read fault\n",
-    },
-    Run {
-        words: "compile riscv64 1",
-        input: ADD,
-        read_fails: 1,
-        room: 1000,
-        status: 4,
-        out: 0,
-        err: "read fault\n",
-    },
-    Run {
-        words: "compile riscv64 1",
-        input: ADD,
-        read_fails: NONE,
-        room: 20,
-        status: 5,
-        out: 20,
-        err: "write fault\n",
-    },
-    Run {
-        words: "compile mips 1",
-        input: ADD,
-        read_fails: NONE,
-        room: 1000,
-        status: 2,
-        out: 0,
-        err: "words\n",
-    },
-    Run {
-        words: "compile riscv64 2",
-        input: ADD,
-        read_fails: NONE,
-        room: 1000,
-        status: 2,
-        out: 0,
-        err: "words\n",
-    },
-    Run {
-        words: "compile riscv64 1 (Add64",
-        input: ADD,
-        read_fails: NONE,
-        room: 1000,
-        status: 2,
-        out: 0,
-        err: "words\n",
-    },
-    Run {
-        words: "",
-        input: ADD,
-        read_fails: NONE,
-        room: 1000,
-        status: 2,
-        out: 0,
-        err: "words\n",
-    },
-];
+/// What a run leaves.
+#[derive(Drop)]
+struct Left {
+    status: u8,
+    out: MemSink,
+    err: MemSink,
+}
 
 fn words_of(alloc: Global, line: &str) -> Result<Vec<String>, AllocError> {
     let mut words = Vec::new(alloc);
@@ -130,34 +85,102 @@ fn words_of(alloc: Global, line: &str) -> Result<Vec<String>, AllocError> {
     Ok(words)
 }
 
-#[test]
-fn rows(rt: HostRuntime) -> Result<(), Fail> {
-    let mut code = Vec::new(rt.alloc());
-    for word in ADD_CODE {
-        code.extend_from_slice(&word.to_le_bytes())?;
+fn answered(alloc: Global, line: &str, text: &[u8], faults: Failing) -> Result<Left, Memory> {
+    let words = words_of(alloc, line)?;
+    let mut input = MemSource::new(text.to_vec(alloc)?, [faults.read].to_vec(alloc)?);
+    let mut extra = MemSource::new(Vec::new(alloc), Vec::new(alloc));
+    let mut out = MemSink::new(alloc, faults.room, Vec::new(alloc))?;
+    let mut err = MemSink::new(alloc, faults.error_room, Vec::new(alloc))?;
+    let status = backend(
+        alloc, &words, &mut input, &mut extra, &mut out, &mut err, &Open,
+    );
+    Ok(Left { status, out, err })
+}
+
+fn bytes_of(alloc: Global, code: &[u32]) -> Result<Vec<u8>, AllocError> {
+    let mut bytes = Vec::new(alloc);
+    for word in code {
+        bytes.extend_from_slice(&word.to_le_bytes())?;
     }
-    for run in &RUNS {
-        let words = words_of(rt.alloc(), run.words)?;
-        let mut input = MemSource::new(
-            run.input.as_bytes().to_vec(rt.alloc())?,
-            [run.read_fails].to_vec(rt.alloc())?,
-        );
-        let mut extra = MemSource::new(Vec::new(rt.alloc()), Vec::new(rt.alloc()));
-        let mut out = MemSink::new(rt.alloc(), run.room, Vec::new(rt.alloc()))?;
-        let mut err = MemSink::new(rt.alloc(), 100, Vec::new(rt.alloc()))?;
-        let status = backend(
-            rt.alloc(),
-            &words,
-            &mut input,
-            &mut extra,
-            &mut out,
-            &mut err,
-            &Open,
-        );
-        assert_eq!(rt; status, run.status, "{}", run.words);
-        assert_eq!(rt; out.bytes().len(), run.out, "{}", run.words);
-        assert!(rt; code.starts_with(out.bytes()), "{}", run.words);
-        assert_eq!(rt; err.bytes(), run.err.as_bytes(), "{}", run.words);
+    Ok(bytes)
+}
+
+#[test]
+fn texts_and_refusals(rt: HostRuntime) -> Result<(), Memory> {
+    for Row(words, text, status, out, err) in &TEXTS {
+        let left = answered(rt.alloc(), words, text.as_bytes(), NO_FAULT)?;
+        assert_eq!(rt; left.status, *status, "{words}");
+        assert_eq!(rt; left.out.bytes(), out.as_bytes(), "{words}");
+        assert_eq!(rt; left.err.bytes(), err.as_bytes(), "{words}");
+    }
+    Ok(())
+}
+
+#[test]
+fn code(rt: HostRuntime) -> Result<(), Memory> {
+    for (text, code) in [(ADD, ADD_CODE), (TURNED, TURNED_CODE)] {
+        let left = answered(rt.alloc(), "compile riscv64 1", text.as_bytes(), NO_FAULT)?;
+        let bytes = bytes_of(rt.alloc(), &code)?;
+        assert_eq!(rt; left.status, 0);
+        assert_eq!(rt; left.out.bytes(), bytes.as_slice());
+    }
+    Ok(())
+}
+
+#[test]
+fn generated(rt: HostRuntime) -> Result<(), Memory> {
+    let left = answered(rt.alloc(), "gen 1", b"", NO_FAULT)?;
+    let first =
+        "f0 func(a int64, b int64) int64\nb1:\n  v1 = InitMem <mem>\n  v2 = Arg <int64> {a}\n  v3 = Arg <int64> {b}\n  v4 = Const64 <int64> [10859325028683]\n  v5 = And64 <int64> v2 v2\n";
+    assert_eq!(rt; left.status, 0);
+    assert!(rt; left.out.bytes().starts_with(first.as_bytes()));
+    assert!(rt;
+        left.out
+            .bytes()
+            .ends_with(b"  v35 = MakeResult <int64,mem> v34 v1\n  Ret v35\n")
+    );
+    Ok(())
+}
+
+#[test]
+fn prefixes(rt: HostRuntime) -> Result<(), Memory> {
+    let text = LOOP.as_bytes();
+    for len in 0..text.len() {
+        let left = answered(rt.alloc(), "check riscv64", &text[..len], NO_FAULT)?;
+        assert!(rt; left.status == 0 || left.status == 3, "{len}");
+    }
+    Ok(())
+}
+
+#[test]
+fn faults(rt: HostRuntime) -> Result<(), Memory> {
+    let ends = [
+        ("compile riscv64 1", 0, 100, 100, 4, 0, "read fault\n"),
+        ("check arm", 1, 100, 100, 4, 0, "read fault\n"),
+        (
+            "compile riscv64 1",
+            u64::MAX,
+            20,
+            100,
+            5,
+            20,
+            "write fault\n",
+        ),
+        ("check riscv64", u64::MAX, 20, 100, 5, 20, "write fault\n"),
+        ("gen 2", 0, 20, 100, 5, 20, "write fault\n"),
+        ("check", u64::MAX, 100, 3, 5, 0, "wor"),
+        ("compile riscv64 1", 0, 100, 0, 5, 0, ""),
+    ];
+    for (words, read, room, error_room, status, out, err) in ends {
+        let faults = Failing {
+            read,
+            room,
+            error_room,
+        };
+        let left = answered(rt.alloc(), words, ADD.as_bytes(), faults)?;
+        assert_eq!(rt; left.status, status, "{words}");
+        assert_eq!(rt; left.out.bytes().len(), out, "{words}");
+        assert_eq!(rt; left.err.bytes(), err.as_bytes(), "{words}");
     }
     Ok(())
 }

@@ -4,6 +4,7 @@ pub mod body;
 pub mod header;
 pub mod package;
 pub mod reader;
+pub mod routine;
 
 pub use package::{Function, Value};
 pub use reader::read_narrow;

@@ -1,4 +1,4 @@
-use Rattle.bk_rv_isa.proofs.Windows.{loads_stored, loads_apart}
+use Rattle.bk_rv_isa.proofs.Memory.{loads_stored, loads_apart}
 use Rattle.bk_rv_isa.proofs.laws.memory_keeps_its_bytes.Goals as goal
 
 pub returns-clause-same : goal.returns-clause-same

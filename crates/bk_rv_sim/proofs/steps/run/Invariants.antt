@@ -4,4 +4,7 @@ use Rattle.bk_rv_sim.specs.View.{view}
 use Rattle.bk_rv_sim.proofs.steps.run.Given as goal
 
 abbrev pub invariant-loop-step : goal.invariant-loop-step
-invariant-loop-step l = run (l.bound - l._step) (view l.machine) ≡ run l.bound (view l.fn.machine)
+invariant-loop-step l = record {
+  is : run (l.bound - l._step) (view l.machine) ≡ run l.bound (view l.fn.machine);
+  sig : l.machine.sig ≡ l.fn.machine.sig;
+}

@@ -2,5 +2,5 @@ use Rattle.std.proofs.Common.{◌≡◌, ◌++◌, drop}
 use Rattle.bk_top.specs.Code.{units}
 use Rattle.bk_top.proofs.emit.emit_units.Given as goal
 
-abbrev pub invariant-loop-slot : goal.invariant-loop-slot
-invariant-loop-slot l = l.code.items ++ units l.frame l.slot (drop l.slot l.values) ≡ l.initial.code.items ++ units l.frame 0 l.values
+abbrev pub invariant-loop-action : goal.invariant-loop-action
+invariant-loop-action l = l.code.items ++ units l.frame l.arguments (drop l.action-index l.actions) ≡ l.initial.code.items ++ units l.frame l.arguments l.actions

@@ -1,13 +1,12 @@
-use Rattle.std.proofs.Common.{ap, map, string_bytes, Err}
-use Rattle.bk_top.specs.Answer.{IsCompile}
-use Rattle.bk_top.proofs.Complete.{complete_told}
+use Rattle.std.proofs.Common.{map, string_bytes}
+use Rattle.bk_io.specs.Faults.{Rose}
+use Rattle.bk_top.proofs.Refusing.{refused, no_command_completes}
 use Rattle.bk_top.proofs.program.backend.Goals as goal
 
-pub returns-in-Err-clause-complete : goal.returns-in-Err-clause-complete
-returns-in-Err-clause-complete g c =
-    complete_told (g.S.Source.left c.args.input.now) (IsCompile (map string_bytes c.args.words.now)) c.in-Err.refusal c.tell.result _ _ _ _ _ _
-    (λ q row. c.in-Err.ensures.words.0 (ap Err q) row)
-    (λ q. c.in-Err.ensures.not_yet (ap Err q))
-    (λ q. c.in-Err.ensures.read_fault (ap Err q))
-    (λ q. c.in-Err.ensures.no_write (ap Err q))
-    c.tell.ensures.status
+pub returns-in_default-clause-complete : goal.returns-in_default-clause-complete
+returns-in_default-clause-complete g c =
+    no_command_completes (map string_bytes c.args.words.now) (g.S.Source.left c.args.input.now) _ _ _ _ _ _ _ c.in_default.ensures.none
+
+pub returns-in-Err-clause-refused : goal.returns-in-Err-clause-refused
+returns-in-Err-clause-refused g c some five =
+    refused (map string_bytes c.args.words.now) (g.S.Source.left c.args.input.now) _ _ c.tell-in-Err.result c.in-Some.command c.in-Err.refusal _ _ (Rose (g.E.Sink.faults c.args.err.now) (g.E.Sink.faults c.tell-in-Err.new.err)) c.in-Some.ensures.found c.in-Err.ensures.cause c.tell-in-Err.ensures.told five

@@ -1,0 +1,10 @@
+pub mod Records
+pub mod Fields
+pub mod Tables
+pub mod Layout
+pub mod Lists
+pub mod Contents
+pub mod File
+pub mod Object
+pub mod Loading
+pub mod Functions

@@ -1,0 +1,5 @@
+pub mod Bindings
+pub mod Expressions
+pub mod Match
+pub mod Sound
+pub mod Trees

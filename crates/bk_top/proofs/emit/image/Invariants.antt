@@ -1,7 +1,0 @@
-use Rattle.std.proofs.Common.{◌≡◌, ◌++◌, drop, map}
-use Rattle.bk_top.specs.Narrow.{view}
-use Rattle.bk_top.specs.Code.{image}
-use Rattle.bk_top.proofs.emit.image.Given as goal
-
-abbrev pub invariant-loop-function : goal.invariant-loop-function
-invariant-loop-function l = l.out.items ++ image (map view (drop l.function-index l.functions)) ≡ image (map view l.functions)

@@ -1,0 +1,63 @@
+-- What a refusal tells: its status and its line.
+use Rattle.std.specs.Prelude.{ℕ, List, ◌++◌, codes, string_bytes}
+use Rattle.std.specs.Fmt.{decimal}
+use Rattle.bk_dump.specs.declared.read.errors.Which.{Which}
+use Rattle.bk_dump.specs.declared.read.errors.Which.TheVariants.{Functions, Variables, Values, Blocks, Numbers, Signature, Window}
+use Rattle.bk_form.specs.declared.FormKind.{FormKind}
+use Rattle.bk_form.specs.declared.FormKind.TheVariants as kind
+use Rattle.bk_form.specs.declared.Place.{Place}
+use Rattle.bk_form.specs.declared.Place.TheVariants.{Block, Value}
+use Rattle.bk_top.specs.declared.refusal.Refusal.{Refusal}
+use Rattle.bk_top.specs.declared.refusal.Refusal.TheVariants.{Words, ReadFault, TooLong, Syntax, Limit, Duplicate, Undefined, FormFault, NotYet, WriteFault, Memory}
+
+abbrev pub status : Refusal → ℕ
+status Words = 2
+status ReadFault = 4
+status TooLong = 3
+status (Syntax line) = 3
+status (Limit which line) = 3
+status (Duplicate line) = 3
+status (Undefined name) = 3
+status (FormFault func kind place) = 3
+status NotYet = 3
+status WriteFault = 5
+status Memory = 6
+
+abbrev pub limit_name : Which → List ℕ
+limit_name Functions = codes "functions"
+limit_name Variables = codes "variables"
+limit_name Values = codes "values"
+limit_name Blocks = codes "blocks"
+limit_name Numbers = codes "numbers"
+limit_name Signature = codes "signature"
+limit_name Window = codes "window"
+
+abbrev pub kind_name : FormKind → List ℕ
+kind_name kind.Control = codes "control"
+kind_name kind.Missing = codes "missing"
+kind_name kind.Arity = codes "arity"
+kind_name kind.Ty = codes "type"
+kind_name kind.Width = codes "width"
+kind_name kind.Use = codes "use"
+kind_name kind.Memory = codes "memory"
+kind_name kind.Order = codes "order"
+
+-- a block's or a value's number behind its letter
+abbrev pub place_name : Place → List ℕ
+place_name (Block id) = codes "b" ++ decimal id
+place_name (Value id) = codes "v" ++ decimal id
+
+-- the line on the error stream
+unfoldable pub line : Refusal → List ℕ
+line Words = codes "words\n"
+line ReadFault = codes "read fault\n"
+line TooLong = codes "too long\n"
+line (Syntax n) = codes "line " ++ (decimal n ++ codes ": syntax\n")
+line (Limit which n) = codes "line " ++ (decimal n ++ (codes ": limit " ++ (limit_name which ++ codes "\n")))
+line (Duplicate n) = codes "line " ++ (decimal n ++ codes ": duplicate\n")
+line (Undefined name) = codes "undefined " ++ (string_bytes name ++ codes "\n")
+line (FormFault func kind place) =
+    codes "function " ++ (string_bytes func ++ (codes ": form " ++ (kind_name kind ++ (codes " " ++ (place_name place ++ codes "\n")))))
+line NotYet = codes "not yet\n"
+line WriteFault = codes "write fault\n"
+line Memory = codes "memory\n"

@@ -1,0 +1,112 @@
+//! The line that tells a refusal.
+
+ghost use Rattle.std.specs.Prelude.{◌≡◌, ◌++◌, codes, string_bytes, IfOk, IfSome, IfNone};
+ghost use Rattle.bk_top.specs.Refusals.{limit_name, kind_name, place_name, line};
+ghost use Rattle.bk_top.specs.Answer.{IsPlain};
+
+use crate::refusal::Refusal;
+use bk_dump::Which;
+use bk_form::{FormKind, Place};
+use std::alloc::{AllocError, Global};
+
+fn limit_name(which: Which) -> &'static str
+    ensures { result.now ≡ limit_name which }
+{
+    match which {
+        Which::Functions => "functions",
+        Which::Variables => "variables",
+        Which::Values => "values",
+        Which::Blocks => "blocks",
+        Which::Numbers => "numbers",
+        Which::Signature => "signature",
+        Which::Window => "window",
+    }
+}
+
+fn kind_name(kind: FormKind) -> &'static str
+    ensures { result.now ≡ kind_name kind }
+{
+    match kind {
+        FormKind::Control => "control",
+        FormKind::Missing => "missing",
+        FormKind::Arity => "arity",
+        FormKind::Ty => "type",
+        FormKind::Width => "width",
+        FormKind::Use => "use",
+        FormKind::Memory => "memory",
+        FormKind::Order => "order",
+    }
+}
+
+/// A block's or a value's number behind its letter.
+fn place_name(alloc: Global, place: Place) -> Result<String, AllocError>
+    ensures { IfOk result (λ name. string_bytes name ≡ place_name place) }
+{
+    match place {
+        Place::Block(id) => format!(in alloc; "b{id}"),
+        Place::Value(id) => format!(in alloc; "v{id}"),
+    }
+}
+
+#[tactic(auto, unfolding(crate::specs::Refusals::line))]
+fn limit_line(alloc: Global, which: Which, number: u64) -> Result<String, AllocError>
+    ensures { IfOk result (λ text. string_bytes text ≡ line (Refusal.Limit which number)) }
+{
+    let which = limit_name(which);
+    format!(in alloc; "line {number}: limit {which}\n")
+}
+
+#[tactic(auto, unfolding(crate::specs::Refusals::line))]
+fn form_line(
+    alloc: Global,
+    func: &String,
+    kind: FormKind,
+    place: Place,
+) -> Result<String, AllocError>
+    ensures { IfOk result (λ text. string_bytes text ≡ line (Refusal.FormFault func.now kind place)) }
+{
+    let kind = kind_name(kind);
+    let place = place_name(alloc, place)?;
+    format!(in alloc; "function {func}: form {kind} {place}\n")
+}
+
+/// The line of a refusal that tells no more than its cause.
+#[tactic(auto, unfolding(crate::specs::Refusals::line))]
+pub fn plain_line(refusal: &Refusal) -> Option<&'static str>
+    ensures found { IfSome result (λ text. text.now ≡ line refusal.now) }
+    ensures none { IfNone result (IsPlain refusal.now → ⊥) }
+{
+    match refusal {
+        Refusal::Words => Some("words\n"),
+        Refusal::TooLong => Some("too long\n"),
+        Refusal::NotYet => Some("not yet\n"),
+        Refusal::ReadFault => Some("read fault\n"),
+        Refusal::WriteFault => Some("write fault\n"),
+        Refusal::Memory => Some("memory\n"),
+        Refusal::Syntax { .. }
+        | Refusal::Limit { .. }
+        | Refusal::Duplicate { .. }
+        | Refusal::Undefined { .. }
+        | Refusal::FormFault { .. } => None,
+    }
+}
+
+/// The refusal's line on the error stream.
+#[tactic(auto, unfolding(crate::specs::Refusals::line))]
+pub fn line(alloc: Global, refusal: &Refusal) -> Result<String, AllocError>
+    ensures { IfOk result (λ text. string_bytes text ≡ line refusal.now) }
+{
+    match refusal {
+        Refusal::Syntax { line } => format!(in alloc; "line {line}: syntax\n"),
+        Refusal::Limit { which, line } => limit_line(alloc, *which, *line),
+        Refusal::Duplicate { line } => format!(in alloc; "line {line}: duplicate\n"),
+        Refusal::Undefined { name } => format!(in alloc; "undefined {name}\n"),
+        Refusal::FormFault { func, kind, place } => form_line(alloc, func, *kind, *place),
+        Refusal::Words => String::from_str(alloc, "words\n"),
+        Refusal::TooLong => String::from_str(alloc, "too long\n"),
+        Refusal::NotYet => String::from_str(alloc, "not yet\n"),
+        Refusal::ReadFault => String::from_str(alloc, "read fault\n"),
+        Refusal::WriteFault => String::from_str(alloc, "write fault\n"),
+        Refusal::Memory => String::from_str(alloc, "memory\n"),
+    }
+}

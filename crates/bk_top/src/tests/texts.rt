@@ -1,0 +1,47 @@
+//! Package texts.
+
+/// A sum of two arguments.
+pub const ADD: &str =
+    "add func(a int, b int) int\nb1:\nv1 = InitMem <mem>\nv2 = Arg <int> {a}\nv3 = Arg <int> {b}\nv4 = Add64 <int> v2 v3\nv5 = MakeResult <int,mem> v4 v1\nRet v5\n";
+
+/// The words of the sum's code.
+pub const ADD_CODE: [u32; 19] = [
+    0xfd810f93, 0x01bff663, 0x00500f93, 0x00100073, 0x000f8113, 0x02113023, 0x02813283, 0x00513023,
+    0x03013283, 0x00513423, 0x00013283, 0x00813303, 0x006282b3, 0x00513823, 0x01013283, 0x02513c23,
+    0x02013083, 0x02810113, 0x00008067,
+];
+
+/// The same sum, of values whose numbers do not rise.
+pub const TURNED: &str =
+    "add func(a int, b int) int\nb7:\nv3 = InitMem <mem>\nv9 = Arg <int> {a}\nv4 = Arg <int> {b}\nv7 = Add64 <int> v9 v4\nv5 = MakeResult <int,mem> v7 v3\nRet v5\n";
+
+/// The words of its code: v4 has slot 0, v7 slot 1 and v9 slot 2.
+pub const TURNED_CODE: [u32; 19] = [
+    0xfd810f93, 0x01bff663, 0x00500f93, 0x00100073, 0x000f8113, 0x02113023, 0x02813283, 0x00513823,
+    0x03013283, 0x00513023, 0x01013283, 0x00013303, 0x006282b3, 0x00513423, 0x00813283, 0x02513c23,
+    0x02013083, 0x02810113, 0x00008067,
+];
+
+/// A function of a constant.
+pub const CONSTANT: &str =
+    "k func() int\nb1:\nv1 = InitMem <mem>\nv2 = Const64 <int> [1311768467463790320]\nv3 = MakeResult <int,mem> v2 v1\nRet v3\n";
+
+/// A value that one of two walks leaves out.
+pub const USE: &str =
+    "u func(c bool) int\nb1:\nv1 = InitMem <mem>\nv2 = Arg <bool> {c}\nIf v2 -> b2 b3\nb2: <- b1\nv3 = Const64 <int> [1]\nPlain -> b3\nb3: <- b1 b2\nv4 = MakeResult <int,mem> v3 v1\nRet v4\n";
+
+/// A call of a function that is not declared.
+pub const NO_SUCH: &str =
+    "q func()\nb1:\nv1 = InitMem <mem>\nv2 = StaticLECall <mem> {nosuch} v1\nv3 = SelectN <mem> [0] v2\nv4 = MakeResult <mem> v3\nRet v4\n";
+
+/// A number that is declared twice.
+pub const TWICE: &str =
+    "add func(a int, b int) int\nb1:\nv1 = InitMem <mem>\nv1 = Arg <int> {a}\nv3 = Arg <int> {b}\nv4 = Add64 <int> v1 v3\nv5 = MakeResult <int,mem> v4 v1\nRet v5\n";
+
+/// Parts that the reader takes and drops.
+pub const DROPPED: &str =
+    "var w 8\nq func()\nb1:\nv1 = InitMem <mem>\nv2 = SB <uintptr>\nv3 = Addr <ptr> {w} v2\nv4 = ConstBool <bool> [true]\nv5 = Const64 <int> [3]\nv6 = Div64 <int> [false] v5 v5\nv7 = Zero <mem> {int} [8] v3 v1\nv8 = StaticLECall <mem> {AuxCall{q}} [8] v7\nv9 = SelectN <mem> [0] v8\nv10 = MakeResult <mem> v9\nRet v10\n";
+
+/// A loop over a variable, with groups that the reader drops.
+pub const LOOP: &str =
+    "var a 24 = 010000000000000002000000000000000300000000000000\nmain.sum func(p *int, n int) int\nb1:\nv1 (?) = InitMem <mem>\nv2 (?) = SP <uintptr>\nv3 (?) = SB <uintptr>\nv4 (?) = Arg <*int> {p} (p[*int])\nv5 (?) = Arg <int> {n} (n[int])\nv6 (?) = Const64 <int> [0] (s[int], i[int])\nv7 (?) = Const64 <int> [1]\nv8 (?) = Const64 <uint64> [3]\nPlain → b2 (+4)\nb2: ← b1 b3\nv9 (4) = Phi <int> v6 v16 (i[int])\nv10 (7) = Phi <int> v6 v15\nv11 (+4) = Less64 <bool> v9 v5\nIf v11 → b3 b4 (likely) (4)\nb3: ← b2\nv12 = Lsh64x64 <int> [true] v9 v8\nv13 = AddPtr <*int> v4 v12\nv14 = Load <int> v13 v1\nv15 = Add64 <int> v10 v14\nv16 = Add64 <int> v9 v7\nPlain → b2\nb4: ← b2\nv17 = MakeResult <int,mem> v10 v1\nRet v17\n";
