@@ -16,55 +16,57 @@ use Rattle.bk_func.specs.declared.form.FormKind.TheVariants.{Control, Missing, A
 use Rattle.bk_func.specs.declared.form.Place.{Place}
 use Rattle.bk_func.specs.declared.form.Place.TheVariants.{Block, Value}
 use Rattle.bk_func.specs.Records.{ValueRecord, BlockRecord, FuncRecord, PackageRecord}
-use Rattle.bk_func.specs.Form.Text.{HasBlock, IsFirstIn}
-use Rattle.bk_func.specs.Form.Walks.{MissesControl, MissesArgument}
-use Rattle.bk_func.specs.Form.States.{BreaksMemory, KeepsMemory}
+use Rattle.bk_func.specs.Form.Text.{HasBlock, IsFirstNotIn}
+use Rattle.bk_func.specs.Form.Walks.{DefinesControl, DefinesArguments}
+use Rattle.bk_func.specs.Form.States.{KeepsStates, KeepsMemory}
 use Rattle.bk_func.specs.Form.Before.{Precedes}
 use Rattle.bk_func.specs.Form.Signatures.{Setting, whole, words_of}
 use Rattle.bk_func.specs.Form.Parts.{KeepsControl, NamesInBlock, NamesInValue, HasArity, HasRange}
 use Rattle.bk_func.specs.Form.Shapes.{HasControlType, HasTypes}
 
--- what breaks a kind at a block, and at a value of a block
-abbrev pub BreaksBlock : Setting → FuncRecord → FormKind → BlockRecord → Type 0
-BreaksBlock s f Control b = ¬ KeepsControl f b
-BreaksBlock s f Missing b = ¬ NamesInBlock f b
-BreaksBlock s f Arity b = ⊥
-BreaksBlock s f Ty b = ¬ HasControlType s f b
-BreaksBlock s f Width b = ⊥
-BreaksBlock s f Use b = MissesControl f b
-BreaksBlock s f Memory b = BreaksMemory f b
-BreaksBlock s f Order b = ⊥
+-- what a kind asks of a block, and of a value of a block
+abbrev pub AsksBlock : Setting → FuncRecord → FormKind → BlockRecord → Type 0
+AsksBlock s f Control b = KeepsControl f b
+AsksBlock s f Missing b = NamesInBlock f b
+AsksBlock s f Arity b = Unit {0}
+AsksBlock s f Ty b = HasControlType s f b
+AsksBlock s f Width b = Unit {0}
+AsksBlock s f Use b = DefinesControl f b
+AsksBlock s f Memory b = KeepsStates f b
+AsksBlock s f Order b = Unit {0}
 
-abbrev pub BreaksValue : Setting → FuncRecord → FormKind → BlockRecord → ValueRecord → Type 0
-BreaksValue s f Control b v = ⊥
-BreaksValue s f Missing b v = ¬ NamesInValue s f v
-BreaksValue s f Arity b v = ¬ HasArity s f b v v.op.family
-BreaksValue s f Ty b v = ¬ HasTypes s f v
-BreaksValue s f Width b v = ¬ HasRange s f v (info_of v.op).aux
-BreaksValue s f Use b v = MissesArgument f b v
-BreaksValue s f Memory b v = ¬ KeepsMemory f b v
-BreaksValue s f Order b v = Precedes f b v v
+abbrev pub AsksValue : Setting → FuncRecord → FormKind → BlockRecord → ValueRecord → Type 0
+AsksValue s f Control b v = Unit {0}
+AsksValue s f Missing b v = NamesInValue s f v
+AsksValue s f Arity b v = HasArity s f b v v.op.family
+AsksValue s f Ty b v = HasTypes s f v
+AsksValue s f Width b v = HasRange s f v (info_of v.op).aux
+AsksValue s f Use b v = DefinesArguments f b v
+AsksValue s f Memory b v = KeepsMemory f b v
+AsksValue s f Order b v = ¬ Precedes f b v v
 
--- something is broken at the block or at a value of it
-abbrev pub IsBroken : (BlockRecord → Type 0) → (BlockRecord → ValueRecord → Type 0) → BlockRecord → Type 0
-IsBroken P Q b = P b ⊎ ((v : ValueRecord) × Contains b.values v × Q b v)
+-- what is asked holds of the block and of its values
+pub record Holds (P : BlockRecord → Type 0) (Q : BlockRecord → ValueRecord → Type 0) (b : BlockRecord) : Type 0 where
+  pub block : P b
+  pub value : (v : ValueRecord) → Contains b.values v → Q b v
 
-abbrev pub NoneBroken : (BlockRecord → Type 0) → (BlockRecord → ValueRecord → Type 0) → FuncRecord → Type 0
-NoneBroken P Q f = (b : BlockRecord) → HasBlock f b → ¬ IsBroken P Q b
+abbrev pub AllHold : (BlockRecord → Type 0) → (BlockRecord → ValueRecord → Type 0) → FuncRecord → Type 0
+AllHold P Q f = (b : BlockRecord) → HasBlock f b → Holds P Q b
 
--- the first place in the block at which something is broken: the block comes before its values
+-- the first place in the block at which it does not hold: the block comes before its values
 abbrev pub IsPlaceIn : (BlockRecord → Type 0) → (BlockRecord → ValueRecord → Type 0) → BlockRecord → Place → Type 0
-IsPlaceIn P Q b place = (P b × (place ≡ Block b.id)) ⊎ (¬ P b × ((v : ValueRecord) × IsFirstIn (Q b) b.values v × (place ≡ Value v.id)))
+IsPlaceIn P Q b place = (¬ P b × (place ≡ Block b.id)) ⊎ (P b × ((v : ValueRecord) × IsFirstNotIn (Q b) b.values v × (place ≡ Value v.id)))
 
 -- the first place in the text
 abbrev pub IsFirstPlace : (BlockRecord → Type 0) → (BlockRecord → ValueRecord → Type 0) → FuncRecord → Place → Type 0
-IsFirstPlace P Q f place = (b : BlockRecord) × IsFirstIn (IsBroken P Q) f.blocks b × IsPlaceIn P Q b place
+IsFirstPlace P Q f place = (b : BlockRecord) × IsFirstNotIn (Holds P Q) f.blocks b × IsPlaceIn P Q b place
 
-abbrev pub NoBreach : Setting → FuncRecord → FormKind → Type 0
-NoBreach s f k = NoneBroken (BreaksBlock s f k) (BreaksValue s f k) f
+-- the function has what the kind asks; the first place at which it has not
+abbrev pub Keeps : Setting → FuncRecord → FormKind → Type 0
+Keeps s f k = AllHold (AsksBlock s f k) (AsksValue s f k) f
 
 abbrev pub IsFirstBreach : Setting → FuncRecord → FormKind → Place → Type 0
-IsFirstBreach s f k place = IsFirstPlace (BreaksBlock s f k) (BreaksValue s f k) f place
+IsFirstBreach s f k place = IsFirstPlace (AsksBlock s f k) (AsksValue s f k) f place
 
 -- the kinds in the order in which they are tested
 abbrev pub rank : FormKind → ℕ
@@ -77,14 +79,14 @@ rank Use = 5
 rank Memory = 6
 rank Order = 7
 
--- the function has blocks, and breaks nothing
+-- the function has blocks, and what each kind asks
 pub record IsFormed (s : Setting) (f : FuncRecord) : Type 0 where
   pub blocks : ¬ (f.blocks ≡ [])
-  pub kinds : (k : FormKind) → NoBreach s f k
+  pub kinds : (k : FormKind) → Keeps s f k
 
 -- the first kind that is broken, at its first place
 pub record IsFirstFault (s : Setting) (f : FuncRecord) (k : FormKind) (place : Place) : Type 0 where
-  pub before : (j : FormKind) → rank j < rank k → NoBreach s f j
+  pub before : (j : FormKind) → rank j < rank k → Keeps s f j
   pub here : IsFirstBreach s f k place
 
 -- a function in form; a function of which the places of arguments and results count words; and both in word form, where

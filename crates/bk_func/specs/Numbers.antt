@@ -115,7 +115,7 @@ memory_arg _ v = if (info_of v.op).memory then last_or None v.args else None
 
 -- the state of memory that a value names
 abbrev pub state_of : FuncRecord → ValueRecord → Option ℕ
-state_of f v = option_map (memory_at (count_by is_memory_copy (values_of f)) f) (memory_arg (origin_of v.op.family) v)
+state_of f v = option_map (memory_at (room f) f) (memory_arg (origin_of v.op.family) v)
 
 -- the address that a load or a store is at: its first argument and the number beside it
 abbrev pub address_by : Target → ValueRecord → (ℕ → ℕ) → ℕ

@@ -39,10 +39,10 @@ pub record KeepsControl (f : FuncRecord) (b : BlockRecord) : Type 0 where
   pub into : (n : ℕ) → edges_out f n b.id ≡ edges_in f n b.id
 
 -- the number is that of one block, or of one value
-abbrev pub IsBlockNumber : FuncRecord → ℕ → Type 0
+unfoldable pub IsBlockNumber : FuncRecord → ℕ → Type 0
 IsBlockNumber f n = count_by (λ b. b.id == n) f.blocks ≡ 1
 
-abbrev pub IsValueNumber : FuncRecord → ℕ → Type 0
+unfoldable pub IsValueNumber : FuncRecord → ℕ → Type 0
 IsValueNumber f n = sum_by (λ b. count_by (λ v. v.id == n) b.values) f.blocks ≡ 1
 
 -- the block's numbers name one thing each
@@ -59,7 +59,7 @@ pub data Symbol : Type 0 where
   variable : Symbol
   argument : Symbol
 
-abbrev pub symbol_of : Family → Symbol
+unfoldable pub symbol_of : Family → Symbol
 symbol_of op.StaticLECall = function
 symbol_of op.Call = function
 symbol_of op.Addr = variable
@@ -89,7 +89,7 @@ call_arity s None = None
 call_arity s (Some g) = Some (length (s.places g.args) + 1)
 
 -- the value has as many arguments as its op takes
-abbrev pub HasArity : Setting → FuncRecord → BlockRecord → ValueRecord → Family → Type 0
+unfoldable pub HasArity : Setting → FuncRecord → BlockRecord → ValueRecord → Family → Type 0
 HasArity s f b v op.Phi = length v.args ≡ length b.preds
 HasArity s f b v op.MakeResult = length v.args ≡ length (s.places f.sig.results) + 1
 HasArity s f b v op.StaticLECall = call_arity s (sig_of s.pkg v.aux) ≡ Some (length v.args)
@@ -110,7 +110,7 @@ abbrev pub IsResultWord : Setting → SigRecord → ℤ → Type 0
 IsResultWord s g n = IsBetween n (length (words_of s.target g.args)) (length (words_of_sig s.target g))
 
 -- the number beside an op that has one is in the op's range
-abbrev pub InRange : Setting → FuncRecord → ValueRecord → Family → Type 0
+unfoldable pub InRange : Setting → FuncRecord → ValueRecord → Family → Type 0
 InRange s f v op.Const = IsSigned v.op.a v.int
 InRange s f v op.ConstBool = IsBetween v.int 0 2
 InRange s f v op.Trap = IsBetween v.int 1 7

@@ -181,7 +181,7 @@ FitsList s None part i u = ⊥
 FitsList s (Some g) part i u = MatchOption (slice_get (s.places (part g)) i) (u.ty ≡ Mem) (λ x. IsFree u × IsAlike s x u.ty)
 
 -- the argument u fits the place i of the value v
-abbrev pub FitsPlace : Setting → FuncRecord → ValueRecord → Family → ℕ → ValueRecord → Type 0
+unfoldable pub FitsPlace : Setting → FuncRecord → ValueRecord → Family → ℕ → ValueRecord → Type 0
 FitsPlace s f v op.StaticLECall i u = FitsList s (sig_of s.pkg v.aux) (λ g. g.args) i u
 FitsPlace s f v op.MakeResult i u = FitsList s (Some f.sig) (λ g. g.results) i u
 FitsPlace s f v o i u = FitsSlot s f v u (slot v.op o i)
@@ -201,7 +201,7 @@ abbrev pub GivesResult : Setting → List Ty → ℤ → Ty → Type 0
 GivesResult s ts n x = ((n ≡ pos (length ts)) → x ≡ Mem) × ((k : ℕ) (y : Ty) → n ≡ pos k → slice_get ts k ≡ Some y → IsAlike s y x)
 
 -- the value's own type is one that its op gives; most ops say it by their class
-abbrev pub GivesByType : Setting → FuncRecord → ValueRecord → Family → Type 0
+unfoldable pub GivesByType : Setting → FuncRecord → ValueRecord → Family → Type 0
 GivesByType s f v op.Phi = (v.ty ≡ Mem) ⊎ IsData s v.ty
 GivesByType s f v op.Copy = (v.ty ≡ Mem) ⊎ IsData s v.ty
 GivesByType s f v op.Arg = GivesArgument s (s.places f.sig.args) v.aux v.ty
@@ -209,12 +209,12 @@ GivesByType s f v op.SelectN = (g : SigRecord) × ResultOf s.pkg f v g × GivesR
 GivesByType s f v _ = IsData s v.ty
 
 -- a machine word, but of a signature's word the type that fits it
-abbrev pub GivesWord : Setting → FuncRecord → ValueRecord → Family → Type 0
+unfoldable pub GivesWord : Setting → FuncRecord → ValueRecord → Family → Type 0
 GivesWord s f v op.ArgWord = IsData s v.ty × FitsWordOf s f.sig v.int v.ty
 GivesWord s f v op.ResWord = IsData s v.ty × ((g : SigRecord) → ResultOf s.pkg f v g → FitsWordOf s g v.int v.ty)
 GivesWord s f v _ = FitsWord s v.ty
 
-abbrev pub GivesResults : Setting → FuncRecord → ValueRecord → Family → Type 0
+unfoldable pub GivesResults : Setting → FuncRecord → ValueRecord → Family → Type 0
 GivesResults s f v op.MakeResult = GivesList (Some f.sig) v.ty
 GivesResults s f v _ = GivesList (sig_of s.pkg v.aux) v.ty
 
@@ -228,7 +228,7 @@ Gives s f v Results = GivesResults s f v v.op.family
 Gives s f v ByType = GivesByType s f v v.op.family
 
 -- a store names the type that it writes, and no other op names one
-abbrev pub FitsAux : Setting → Family → Aux → Type 0
+unfoldable pub FitsAux : Setting → Family → Aux → Type 0
 FitsAux s op.Store (beside.Ty x) = IsData s x
 FitsAux s op.Store _ = ⊥
 FitsAux s _ (beside.Ty x) = ⊥

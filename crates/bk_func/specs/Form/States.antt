@@ -88,10 +88,11 @@ EndsWithState f b = (n m : ℕ) (c : BlockRecord) (v : ValueRecord) → b.contro
     → (v.op.family ≡ MakeResult → ¬ (c.id ≡ b.id) → (s : ℕ) × Names f v s × IsLastState f b s)
     × (¬ (v.op.family ≡ MakeResult) → v.ty ≡ Mem → IsLastState f b m)
 
--- what breaks memory at a block: an entry without a first state, or a reached block without a chain or with another end
-abbrev pub BreaksMemory : FuncRecord → BlockRecord → Type 0
-BreaksMemory f b = (IsEntry f b × ((v : ValueRecord) → Contains b.values v → ¬ (v.op.family ≡ InitMem)))
-    ⊎ (IsReached f b × ¬ (HasChain f b × EndsWithState f b))
+-- the entry has a first state, and a block that walks reach has a chain and ends with its last state
+pub record KeepsStates (f : FuncRecord) (b : BlockRecord) : Type 0 where
+  pub first : IsEntry f b → (v : ValueRecord) × Contains b.values v × (v.op.family ≡ InitMem)
+  pub chain : IsReached f b → HasChain f b
+  pub last : IsReached f b → EndsWithState f b
 
 -- a phi of memory takes the last state of each predecessor that is reached
 abbrev pub TakesLastStates : FuncRecord → BlockRecord → ValueRecord → Type 0

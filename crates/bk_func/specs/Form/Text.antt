@@ -25,3 +25,7 @@ IsPhi v = v.op.family ≡ Phi
 -- the first element of which the fact holds
 abbrev pub IsFirstIn : {A : Type 0} → (A → Type 0) → List A → A → Type 0
 IsFirstIn {A} P xs x = (i : ℕ) × (slice_get xs i ≡ Some x) × P x × ((j : ℕ) (y : A) → j < i → slice_get xs j ≡ Some y → ¬ P y)
+
+-- the first element of which it does not hold
+abbrev pub IsFirstNotIn : {A : Type 0} → (A → Type 0) → List A → A → Type 0
+IsFirstNotIn {A} P xs x = (i : ℕ) × (slice_get xs i ≡ Some x) × ¬ P x × ((j : ℕ) (y : A) → j < i → slice_get xs j ≡ Some y → P y)
