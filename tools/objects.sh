@@ -7,6 +7,10 @@
 # With no OBJECT, the programs of examples/ are compiled, each for both targets as far as the compiler takes it. What
 # binutils lacks for a target is skipped with a line. The status is 0 where nothing failed, else 1.
 top=$(cd "$(dirname "$0")/.." && pwd) || exit 1
+if ! command -v readelf > /dev/null; then
+    echo "skipped: readelf is not installed"
+    exit 0
+fi
 room=$(mktemp -d) || exit 1
 trap 'rm -rf "$room"' EXIT
 failed=0
