@@ -19,6 +19,7 @@ mod signatures;
 mod symbols;
 mod symtab;
 mod tables;
+mod typed;
 mod writer;
 
 pub use bk_ops::Memory;

@@ -2,6 +2,8 @@
 ghost use Rattle.std.specs.Prelude.{◌≡◌, ◌⊎◌, ◌+◌, ◌≤◌, length, None, Ok, Err, OnOk, IfOk, IfErr};
 ghost use Rattle.bk_elf.specs.declared.errors.LoadError.TheVariants.{Memory};
 ghost use Rattle.bk_elf.specs.declared.tables.Section.TheVariants.{Shstrtab};
+ghost use Rattle.bk_elf.specs.Object.{IsObject};
+ghost use Rattle.bk_elf.specs.File.{file_of};
 ghost use Rattle.bk_elf.specs.Loading.{content, begin_read, holds, image_of, section_fault, loaded, IsAt, IsCause};
 
 use crate::file::{File, Part};
@@ -10,11 +12,23 @@ use crate::numbers::is_zero;
 use crate::opening::opened;
 use crate::placing::bad;
 use crate::tables::{SECTION_NAMES, Section};
+use crate::typed::are_bytes;
 use crate::{Image, LoadError};
 use std::alloc::Global;
 
 /// The fields of the object that the file holds, where it is exactly as an object's.
 pub fn load(alloc: Global, bytes: &[u8]) -> Result<Image, LoadError>
+    ensures image { IfOk result (λ image. loaded bytes.now ≡ Ok image) }
+    ensures refused { IfErr result (λ e. (e ≡ Memory) ⊎ (loaded bytes.now ≡ Err e)) }
+    ensures object { IfOk result IsObject }
+    ensures file { IfOk result (λ image. bytes.now ≡ file_of image) }
+{
+    let image = image_of(alloc, bytes)?;
+    are_bytes(bytes);
+    Ok(image)
+}
+
+fn image_of(alloc: Global, bytes: &[u8]) -> Result<Image, LoadError>
     ensures image { IfOk result (λ image. loaded bytes.now ≡ Ok image) }
     ensures refused { IfErr result (λ e. (e ≡ Memory) ⊎ (loaded bytes.now ≡ Err e)) }
 {

@@ -1,11 +1,12 @@
 // Writing an object as a file.
-ghost use Rattle.std.specs.Prelude.{◌≡◌, ◌+◌, ◌^◌, ◌<◌, ◌++◌, length, OnOk, IfOk};
+ghost use Rattle.std.specs.Prelude.{◌≡◌, ◌+◌, ◌^◌, ◌<◌, ◌++◌, length, Ok, OnOk, IfOk};
 ghost use Rattle.byteorder.specs.Endian.{little_bytes};
 ghost use Rattle.bk_elf.specs.Fields.{spelled};
 ghost use Rattle.bk_elf.specs.Tables.{ended, symbol_entry};
 ghost use Rattle.bk_elf.specs.Layout.{layout_of};
 ghost use Rattle.bk_elf.specs.Object.{IsObject};
 ghost use Rattle.bk_elf.specs.Contents.{gosig_words, word_bytes, constant_bytes, names_of, name_bytes, entry_bytes, symbol_bytes, sizes_of};
+ghost use Rattle.bk_elf.specs.Loading.{loaded};
 ghost use Rattle.bk_elf.specs.File.{padded, front_of, with_loaded, with_tables, headers_of, file_of};
 
 use crate::fields::put_fields;
@@ -15,6 +16,7 @@ use crate::tables::{
     MAGIC, SECTION_NAMES, SECTIONS, Section, class_of, file_header, program_header, section_header,
     symbol_entry,
 };
+use crate::typed::are_typed;
 use crate::{Memory, Object, Symbol};
 use bk_ops::Target;
 use byteorder::{ByteOrder, LittleEndian};
@@ -23,8 +25,10 @@ use std::alloc::{AllocError, Global};
 /// The file of an object.
 pub fn write_elf(alloc: Global, object: &Object) -> Result<Vec<u8>, Memory>
     requires { IsObject object.now }
-    ensures { IfOk result (λ bytes. bytes.items ≡ file_of object.now) }
+    ensures file { IfOk result (λ bytes. bytes.items ≡ file_of object.now) }
+    ensures loads { IfOk result (λ bytes. loaded bytes.items ≡ Ok object.now) }
 {
+    are_typed(object);
     Ok(written(alloc, object)?)
 }
 

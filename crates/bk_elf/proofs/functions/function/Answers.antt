@@ -1,6 +1,4 @@
-use Rattle.std.proofs.Common.{◌≡◌, ◌≤◌, length, arith}
-use Rattle.std.specs.Prelude.{count_by}
-use Rattle.bk_func.specs.Records.{SigRecord}
+use Rattle.std.proofs.Common.{arith}
 use Rattle.bk_elf.specs.Object.{IsSig}
 use Rattle.bk_elf.specs.Functions.{function_of}
 use Rattle.bk_elf.proofs.Lookup.{function_sig, none_found, none_has, mapped_none, mapped_some}
