@@ -1,3 +1,6 @@
+ghost use Rattle.std.specs.Prelude.{◌≡◌, ◌≤◌, ◌<◌, ◌+◌, ◌*◌, ◌^◌, ℕ, length, slice_index, IfOk};
+ghost use Rattle.bk_arm_sim.specs.Signature.{words_of_sig};
+
 use crate::machine::Machine;
 use crate::registers::put;
 use crate::returned::results;
@@ -13,24 +16,64 @@ const BOTTOM: u64 = 536_870_896;
 
 const DATA_BYTES: [u8; 8] = [0x80, 0xff, 0x7f, 0x01, 0x02, 0x03, 0x04, 0x85];
 
+// Registers of which these three are set.
+fn registers(alloc: Global, set: [(u8, u32); 3]) -> Result<Vec<u64>, AllocError>
+    ensures count { IfOk result (λ regs. length regs.items ≡ 15) }
+    ensures fit { IfOk result (λ regs. (k : ℕ) → slice_index regs.items k < 2 ^ 32) }
+{
+    let mut regs = vec![in alloc; 0; 15]?;
+    let [(first, x), (second, y), (third, z)] = set;
+    put(&mut regs, first, x);
+    put(&mut regs, second, y);
+    put(&mut regs, third, z);
+    Ok(regs)
+}
+
+fn machine(
+    alloc: Global,
+    regs: Vec<u64>,
+    words: &[u32],
+    stack: &[u8],
+    sig: Sig,
+) -> Result<Machine, AllocError>
+    requires count { length regs.items ≡ 15 }
+    requires fit { (k : ℕ) → slice_index regs.items k < 2 ^ 32 }
+    requires few { length words.now ≤ 100 }
+    requires stack { 536870896 + length stack.now ≡ 536870912 + 4 * words_of_sig sig }
+    ensures { IfOk result (λ m. m.sig ≡ sig) }
+{
+    let text = Vec::from_slice(alloc, words)?;
+    let pool = Vec::from_slice(alloc, &[1, 2, 3, 4, 5, 6, 7, 8])?;
+    let window = Vec::from_slice(alloc, &DATA_BYTES)?;
+    let stack = Vec::from_slice(alloc, stack)?;
+    Ok(Machine {
+        regs,
+        pc: TEXT,
+        flags: 0,
+        text,
+        pool,
+        window,
+        stack,
+        bottom: BOTTOM,
+        sig,
+    })
+}
+
+fn signature(alloc: Global, args: &[Ty], results: &[Ty]) -> Result<Sig, AllocError>
+    ensures { IfOk result (λ sig. (sig.args ≡ args.now) × (sig.results ≡ results.now)) }
+{
+    Ok(Sig {
+        args: Vec::from_slice(alloc, args)?,
+        results: Vec::from_slice(alloc, results)?,
+    })
+}
+
 // A machine at this one instruction, with x and y in R1 and R2, of a function without arguments.
 fn at(alloc: Global, word: u32, x: u32, y: u32, flags: u8) -> Result<Machine, AllocError> {
-    let mut m = Machine {
-        regs: vec![in alloc; 0; 15]?,
-        pc: TEXT,
-        flags,
-        text: Vec::from_array(alloc, [word])?,
-        pool: Vec::from_array(alloc, [1, 2, 3, 4, 5, 6, 7, 8])?,
-        window: Vec::from_array(alloc, DATA_BYTES)?,
-        stack: vec![in alloc; 0; 16]?,
-        bottom: BOTTOM,
-        sig: Sig {
-            args: Vec::new(alloc),
-            results: Vec::new(alloc),
-        },
-    };
-    put(&mut m.regs, 1, x);
-    put(&mut m.regs, 2, y);
+    let regs = registers(alloc, [(1, x), (2, y), (0, 0)])?;
+    let sig = signature(alloc, &[], &[])?;
+    let mut m = machine(alloc, regs, &[word], &[0; 16], sig)?;
+    m.flags = flags;
     Ok(m)
 }
 
@@ -183,29 +226,18 @@ const SUM: [u32; 15] = [
     0xe59d100c, 0xe0800001, 0xe58d0010, 0xe59de004, 0xe300b008, 0xe08dd00b, 0xe12fff1e,
 ];
 
-// The machine at its start, with the arguments 2 and 3 and this many bytes of stack below them.
-fn sum(alloc: Global, bound: u32) -> Result<Machine, AllocError> {
-    let mut stack = vec![in alloc; 0; 28]?;
-    stack[16] = 2;
-    stack[20] = 3;
-    let mut m = Machine {
-        regs: vec![in alloc; 0; 15]?,
-        pc: TEXT,
-        flags: 0,
-        text: Vec::from_array(alloc, SUM)?,
-        pool: Vec::new(alloc),
-        window: Vec::new(alloc),
-        stack,
-        bottom: BOTTOM,
-        sig: Sig {
-            args: Vec::from_array(alloc, [Ty::Int32, Ty::Int32])?,
-            results: Vec::from_array(alloc, [Ty::Int32])?,
-        },
-    };
-    put(&mut m.regs, 10, bound);
-    put(&mut m.regs, 13, 536_870_912);
-    put(&mut m.regs, 14, 61_440);
-    Ok(m)
+// The arguments 2 and 3 above 16 bytes of stack, and the word of the result.
+const STACK: [u8; 28] = [
+    0, 0, 0, 0, 0, 0, 0, 0, 0, 0, 0, 0, 0, 0, 0, 0, 2, 0, 0, 0, 3, 0, 0, 0, 0, 0, 0, 0,
+];
+
+// The machine at its start, with this stack bound.
+fn sum(alloc: Global, bound: u32) -> Result<Machine, AllocError>
+    ensures { IfOk result (λ m. length m.sig.results ≡ 1) }
+{
+    let regs = registers(alloc, [(10, bound), (13, 536_870_912), (14, 61_440)])?;
+    let sig = signature(alloc, &[Ty::Int32, Ty::Int32], &[Ty::Int32])?;
+    machine(alloc, regs, &SUM, &STACK, sig)
 }
 
 #[test]
