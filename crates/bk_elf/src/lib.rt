@@ -19,6 +19,8 @@ mod signatures;
 mod symbols;
 mod symtab;
 mod tables;
+#[cfg(test)]
+mod tests;
 mod typed;
 mod writer;
 
