@@ -20,6 +20,9 @@ pub mod Execution
 pub mod Computes
 pub mod Narrows
 pub mod Numbers
+pub mod Calls
+pub mod Shown
+pub mod Endings
 pub mod Actions
 pub mod Counts
 pub mod Adding

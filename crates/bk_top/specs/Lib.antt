@@ -4,6 +4,9 @@ pub mod Decimal
 pub mod Reading
 pub mod Narrow
 pub mod Commands
+pub mod Arguments
+pub mod Outcomes
+pub mod Running
 pub mod Refusals
 pub mod Sums
 pub mod Routine

@@ -11,7 +11,7 @@ use texts::{ADD, ADD_CODE, CONSTANT, DROPPED, LOOP, NO_SUCH, TURNED, TURNED_CODE
 /// The words, the input, and what they leave: the status and the texts on the output and on the error stream.
 struct Row(&'static str, &'static str, u8, &'static str, &'static str);
 
-const TEXTS: [Row; 23] = [
+const TEXTS: [Row; 34] = [
     Row("check arm", "", 0, "ok 0 functions 0 values\n", ""),
     Row("check riscv64", ADD, 0, "ok 1 functions 5 values\n", ""),
     Row(
@@ -53,6 +53,23 @@ const TEXTS: [Row; 23] = [
     Row("gen 4097", "", 2, "", "words\n"),
     Row("gen 01", "", 2, "", "words\n"),
     Row("gen +1", "", 2, "", "words\n"),
+    Row("run", "", 2, "", "words\n"),
+    Row("run add", "", 2, "", "words\n"),
+    Row("run add 05 1 2", "", 2, "", "words\n"),
+    Row("run add -5 1 2", "", 2, "", "words\n"),
+    Row("run add 5 -0", "", 2, "", "words\n"),
+    Row("run add 5 +1", "", 2, "", "words\n"),
+    Row("run add 5 18446744073709551616", "", 2, "", "words\n"),
+    Row("run add 5 -9223372036854775809", "", 2, "", "words\n"),
+    Row("run add 10 1 2", "", 8, "", "object: not ELF\n"),
+    Row(
+        "run add 18446744073709551615 18446744073709551615 -9223372036854775808",
+        "\u{7f}ELF\u{2}",
+        8,
+        "",
+        "object: truncated\n",
+    ),
+    Row("run add 10 1 2", ADD, 8, "", "object: not ELF\n"),
 ];
 
 /// Where reads and writes fail: the number of a read, and the room of the sinks.
@@ -157,6 +174,7 @@ fn faults(rt: HostRuntime) -> Result<(), Memory> {
     let ends = [
         ("compile riscv64 1", 0, 100, 100, 4, 0, "read fault\n"),
         ("check arm", 1, 100, 100, 4, 0, "read fault\n"),
+        ("run add 10 1 2", 1, 100, 100, 4, 0, "read fault\n"),
         (
             "compile riscv64 1",
             u64::MAX,

@@ -6,9 +6,9 @@ ghost use Rattle.bk_top.specs.Narrow.{IsNarrow, IsWellFormed, view};
 ghost use Rattle.bk_top.specs.Sums.{is_sum, is_sums};
 ghost use Rattle.bk_top.specs.Routine.{routine_of_narrow, routine_of};
 ghost use Rattle.bk_top.specs.Code.{image, little_endian};
+ghost use Rattle.bk_top.specs.Commands.{compile_row};
 ghost use Rattle.bk_top.specs.Answer.{IsNarrowText, Translates, TranslatesPackage, Compiles, Spoils};
 
-use crate::command::Command;
 use crate::emit::put_routine;
 use crate::narrow::routine::routine_of_narrow;
 use crate::narrow::{Function, read_narrow};
@@ -79,7 +79,7 @@ fn narrow(alloc: Global, text: &[u8]) -> Result<Option<Vec<u8>>, AllocError>
 fn wide(alloc: Global, text: &[u8]) -> Result<Vec<u8>, Refusal>
     requires { IsNarrowText text.now → ⊥ }
     ensures made { IfOk result (λ bytes. TranslatesPackage bytes.items) }
-    ensures cause { IfErr result (Spoils Command.Compile text.now) }
+    ensures cause { IfErr result (Spoils compile_row text.now) }
 {
     let package = package_of(alloc, text, Target::Riscv64)?;
     if !is_sums(&package) {
@@ -94,7 +94,7 @@ fn wide(alloc: Global, text: &[u8]) -> Result<Vec<u8>, Refusal>
 /// The image of the package that the text spells.
 pub fn compile(alloc: Global, text: &[u8]) -> Result<Vec<u8>, Refusal>
     ensures made { IfOk result (λ bytes. Compiles text.now bytes.items) }
-    ensures cause { IfErr result (Spoils Command.Compile text.now) }
+    ensures cause { IfErr result (Spoils compile_row text.now) }
 {
     match narrow(alloc, text) {
         Ok(Some(bytes)) => Ok(bytes),
