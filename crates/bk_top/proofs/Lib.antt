@@ -15,10 +15,12 @@ pub mod Effects
 pub mod Slots
 pub mod Start
 pub mod Units
-pub mod Bytes
 pub mod Execution
 pub mod Computes
 pub mod Narrows
+pub mod Objects
+pub mod Sizes
+pub mod Serving
 pub mod Numbers
 pub mod Calls
 pub mod Shown
@@ -26,5 +28,6 @@ pub mod Endings
 pub mod Actions
 pub mod Counts
 pub mod Adding
+pub mod Packages
 pub mod Emitted
 pub mod Refusing

@@ -1,10 +1,10 @@
 -- What the program answers to its words and its input.
-use Rattle.std.specs.Prelude.{◌≡◌, ℕ, ◌<◌, ◌≤◌, List, ◌++◌, length, take, map, sum_by, Option, IfSome, IsTrue, false, Err, codes, ◌⊎◌}
+use Rattle.std.specs.Prelude.{◌≡◌, ℕ, ◌<◌, ◌≤◌, List, ◌++◌, length, take, map, sum_by, Option, IfSome, IsTrue, All, false, Ok, Err, codes, ◌⊎◌}
 use Rattle.std.specs.Fmt.{decimal}
 use Rattle.std.specs.Io.KnownBytes.{Appends}
 use Rattle.bk_io.specs.Faults.{Rose}
-use Rattle.bk_rv_isa.specs.Machine.{text_base}
 use Rattle.bk_elf.specs.declared.errors.LoadError.{LoadError}
+use Rattle.bk_elf.specs.File.{file_of}
 use Rattle.bk_elf.specs.Loading.{loaded}
 use Rattle.bk_func.specs.Records.{PackageRecord}
 use Rattle.bk_dump.specs.Print.{text_of}
@@ -17,28 +17,31 @@ use Rattle.bk_top.specs.Refusals.{status, line}
 use Rattle.bk_top.specs.Sums.{is_sums}
 use Rattle.bk_top.specs.Routine.{routine_of_narrow, routine_of}
 use Rattle.bk_top.specs.Meaning.{meaning, Returns}
-use Rattle.bk_top.specs.Code.{words, image}
-use Rattle.bk_top.specs.Runs.{AllCompute}
+use Rattle.bk_top.specs.Pieces.{narrow_piece, func_piece, name_in, object_of, AreNamed}
+use Rattle.bk_top.specs.Runs.{Serves}
 use Rattle.bk_top.specs.Running.{Runs, LacksFunction, Misfits}
 
 -- the text is within the limit of narrow texts and spells a list of narrow functions
 abbrev pub IsNarrowText : List ℕ → Type 0
 IsNarrowText text = (length text ≤ 65536) × ((functions : List Narrow) × IsNarrow text functions)
 
--- The bytes are the image of the functions that the text spells; on its words the machine computes what each function means.
+-- The bytes are the file of the object of the functions that the text spells, which is loaded as this object; there each
+-- function does what it means.
 pub record Translates (text bytes : List ℕ) : Type 0 where
   pub functions : List Narrow
   pub within : length text ≤ 65536
   pub spelled : IsNarrow text functions
-  pub image : bytes ≡ image (map routine_of_narrow functions)
-  pub computes : AllCompute routine_of_narrow (λ f args n. n ≡ meaning f args) (words (map routine_of_narrow functions)) text_base functions
+  pub file : bytes ≡ file_of (object_of (map narrow_piece functions))
+  pub loads : loaded bytes ≡ Ok (object_of (map narrow_piece functions))
+  pub serve : All (λ f. Serves (object_of (map narrow_piece functions)) f.name (routine_of_narrow f) (λ args n. n ≡ meaning f args)) functions
 
--- The bytes are the image of a package of sums; on its words the machine computes what each function returns.
+-- The bytes are the file of the object of a package of sums; there each function does what it returns.
 pub record TranslatesPackage (bytes : List ℕ) : Type 0 where
   pub pkg : PackageRecord
   pub adds : IsTrue (is_sums pkg)
-  pub image : bytes ≡ image (map routine_of pkg.funcs)
-  pub computes : AllCompute routine_of Returns (words (map routine_of pkg.funcs)) text_base pkg.funcs
+  pub file : bytes ≡ file_of (object_of (map (func_piece pkg.names) pkg.funcs))
+  pub loads : loaded bytes ≡ Ok (object_of (map (func_piece pkg.names) pkg.funcs))
+  pub serve : All (λ f. Serves (object_of (map (func_piece pkg.names) pkg.funcs)) (name_in pkg.names f) (routine_of f) (Returns f)) pkg.funcs
 
 -- what `compile` makes of a text: that of a narrow text by what it spells, that of another by the package that was read
 abbrev pub Compiles : List ℕ → List ℕ → Type 0
@@ -87,9 +90,9 @@ IsLeft (check_row target) text = Unit {0}
 IsLeft (generate_row n) text = ⊥
 IsLeft (run_row call) text = ⊥
 
--- the command makes code, and the package that was read is none of sums
+-- the command makes code, and the package that was read is none of sums, or has names that no object holds
 abbrev pub IsNotYet : CommandRecord → Type 0
-IsNotYet compile_row = (p : PackageRecord) × (is_sums p ≡ false)
+IsNotYet compile_row = (p : PackageRecord) × ((is_sums p ≡ false) ⊎ (AreNamed (map (func_piece p.names) p.funcs) → ⊥))
 IsNotYet (check_row target) = ⊥
 IsNotYet (generate_row n) = ⊥
 IsNotYet (run_row call) = ⊥
@@ -170,7 +173,7 @@ pub record GainsFront (words : List (List ℕ)) (input before now : Option (List
   pub made : Makes command input bytes
   pub gained : AppendsFront before now bytes
 
--- the output gained the image of the functions that the text spells
+-- the output gained the object of the functions that the text spells
 pub record Compiled (text : List ℕ) (before now : Option (List ℕ)) : Type 0 where
   pub bytes : List ℕ
   pub translates : Translates text bytes

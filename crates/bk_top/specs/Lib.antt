@@ -12,5 +12,6 @@ pub mod Sums
 pub mod Routine
 pub mod Meaning
 pub mod Code
+pub mod Pieces
 pub mod Runs
 pub mod Answer
