@@ -1,5 +1,5 @@
 -- The routine of a function that adds leaves what the function returns.
-use Rattle.std.proofs.Common.{◌≡◌, ◌≢◌, ℕ, ◌+◌, ◌%◌, ◌^◌, ◌<◌, ◌≤◌, List, [], ◌∷◌, ◌++◌, length, get_or, All, ap, ◌∙◌, sym, subst, refl, arith, true, Option, Some, None, inl, inr, ⊎_elim, append_assoc, append-nil}
+use Rattle.std.proofs.Common.{◌≡◌, ◌≢◌, ℕ, ◌+◌, ◌%◌, ◌^◌, ◌<◌, ◌≤◌, List, [], ◌∷◌, ◌++◌, length, get_or, All, ap, ◌∙◌, sym, subst, refl, arith, true, Option, Some, None, inl, inr, ⊎_elim, append_assoc, append-nil, suc}
 use Rattle.std.specs.Prelude.{◌&&◌, ◌==◌, not, nat_lt, nat_le, count_by, Contains, slice_index, slice_set}
 use Rattle.std.specs.List.{list_any, list_all, filter_map, cons_option}
 use Rattle.std.proofs.lemmas.Bool.{cases_lt}
@@ -391,3 +391,29 @@ sum_fits fs i f h lt is = subst (λ g. FitsFrame (routine_of g)) (sym is) (sums_
 
 pub all_sums : (p : PackageRecord) → is_sums p ≡ true → list_all is_sum p.funcs ≡ true
 all_sums p h = (both (length p.vars == 0) (list_all is_sum p.funcs) h).1
+
+kept_few : {Y : Type 0} (o : Option Y) (ys : List Y) (n : ℕ) → length ys ≤ n → length (cons_option o ys) ≤ suc n
+kept_few None ys n h = omega arith
+kept_few (Some y) ys n h = omega arith
+
+filtered_few : {X Y : Type 0} (h : X → Option Y) (xs : List X) → length (filter_map h xs) ≤ length xs
+filtered_few h [] = omega arith
+filtered_few h (x ∷ xs) = kept_few (h x) (filter_map h xs) (length xs) (filtered_few h xs)
+
+few_values : (n : ℕ) (bs : List BlockRecord) → has_sum_block n bs ≡ true → length (values_in bs) ≤ 100
+few_values n (b ∷ []) h =
+    let p = both (returns b.kind && nat_le (length b.values) 100 && count_by (λ v. is_result v.op.family) b.values == 1) (all_add n b.control [] b.values) h in
+    let q = both (returns b.kind && nat_le (length b.values) 100) (count_by (λ v. is_result v.op.family) b.values == 1) p.0 in
+    at_most (length b.values) 100 (both (returns b.kind) (nat_le (length b.values) 100) q.0).1
+few_values n [] h = absurd (no h)
+few_values n (a ∷ b ∷ bs) h = absurd (no h)
+
+-- a function does at most 100 actions
+pub few_actions : (f : FuncRecord) → is_sum f ≡ true → length (routine_of f).actions ≤ 100
+few_actions f h =
+    let n = length f.sig.args in
+    let p = both (nat_le n 63 && list_all is_int f.sig.args && is_one_int f.sig.results) (has_sum_block n f.blocks) h in
+    omega (arith, filtered_few (λ v. action_at (values_in f.blocks) v v.op.family) (values_in f.blocks), few_values n f.blocks p.1)
+
+pub each_sum : (f : FuncRecord) (fs : List FuncRecord) → list_all is_sum (f ∷ fs) ≡ true → (is_sum f ≡ true) × (list_all is_sum fs ≡ true)
+each_sum f fs h = both (is_sum f) (list_all is_sum fs) h

@@ -7,20 +7,37 @@ use Rattle.std.proofs.lemmas.List.Elements.{All-head, All-tail}
 use Rattle.bk_rv_isa.specs.declared.inst.Inst.{Inst}
 use Rattle.bk_rv_isa.specs.Encoding.{word}
 use Rattle.bk_num.specs.Word.{fits_signed}
-use Rattle.bk_num.specs.Bytes.{bytes}
-use Rattle.bk_num.proofs.Bytes.{length-bytes}
-use Rattle.bk_rv_isa.specs.Machine.{HasAt, Begins, load, stack_top}
+use Rattle.bk_rv_isa.specs.declared.stop.Stop.TheVariants.{Returned, Trapped}
+use Rattle.bk_rv_isa.specs.Machine.{Machine, HasAt, Begins, run, start, load, stack_top}
 use Rattle.bk_rv_isa.proofs.Steps.{has_front, has_back, has_words}
 use Rattle.bk_rv_isa.proofs.Words.{decode_word}
 use Rattle.bk_top.specs.declared.routine.Action.{Action}
 use Rattle.bk_top.specs.declared.routine.Action.TheVariants.{Argument, Sum, Deliver}
 use Rattle.bk_top.specs.Routine.{RoutineRecord, IsWithin, FitsFrame}
-use Rattle.bk_top.specs.Code.{frame, entry, unit, units, ending, code, words, image, little_endian, FitAll}
-use Rattle.bk_top.specs.Runs.{AreWords, Computes, AllCompute}
+use Rattle.bk_top.specs.Code.{frame, entry, unit, units, ending, code, FitAll}
+use Rattle.bk_top.specs.Runs.{AreWords}
 use Rattle.bk_top.proofs.Effects.{outcome}
 use Rattle.bk_top.proofs.Units.{units_run}
 use Rattle.bk_top.proofs.Start.{zeros}
 use Rattle.bk_top.proofs.Execution.{enters, refuses, ends}
+
+-- what a text's machine computes at a pc
+pub record Computes (text : List ℕ) (pc : ℕ) (r : RoutineRecord) (Means : List ℕ → ℕ → Type 0) : Type 0 where
+  pub returns : (args : List ℕ) (stack : ℕ) → length args ≡ r.arguments → AreWords args → stack ≤ 1048576 → frame r.slots ≤ stack
+      → (n : ℕ) × (m : Machine) × (value : ℕ) × (run n (start text [] [] pc args 1 stack) ≡ (Some Returned, m)) × (load m 8 (stack_top + 8 * r.arguments) ≡ Some value) × Means args value
+  pub traps : (args : List ℕ) (stack : ℕ) → length args ≡ r.arguments → AreWords args → stack ≤ 1048576 → stack < frame r.slots
+      → (n : ℕ) × (m : Machine) × (run n (start text [] [] pc args 1 stack) ≡ (Some (Trapped 5), m))
+
+-- each function's routine computes what is meant, at its first word
+abbrev pub AllCompute : {F : Type 0} → (F → RoutineRecord) → (F → List ℕ → ℕ → Type 0) → List ℕ → ℕ → List F → Type 0
+AllCompute routine Means text pc [] = Unit {0}
+AllCompute routine Means text pc (f ∷ fs) =
+    Computes text pc (routine f) (Means f) × AllCompute routine Means text (pc + 4 * length (code (routine f))) fs
+
+-- the words of routines, one behind the other
+abbrev pub words : List RoutineRecord → List ℕ
+words [] = []
+words (r ∷ rs) = map word (code r) ++ words rs
 
 lt_test : (a b : ℕ) → a < b → nat_lt a b ≡ true
 lt_test a b h = grind (arith, nat_tests)
@@ -128,13 +145,6 @@ all_compute routine Means pre (f ∷ fs) l h =
       subst (λ t. AllCompute routine Means t (65536 + 4 * length pre + 4 * length (code r)) fs) (append_assoc pre w rest_words) (subst (λ q. AllCompute routine Means ((pre ++ w) ++ rest_words) q fs) p rest),
     )
 
-length-little_endian : (ws : List ℕ) → length (little_endian ws) ≡ 4 * length ws
-unfolding little_endian
-length-little_endian [] = refl
-length-little_endian (w ∷ ws) = omega (arith, length-append (bytes 4 w) (little_endian ws), length-bytes 4 w, length-little_endian ws)
-
--- an image that fits in memory runs
-pub image_computes : {F : Type 0} (routine : F → RoutineRecord) (Means : F → List ℕ → ℕ → Type 0) (fs : List F) (out : List ℕ) → out ≡ image (map routine fs) → length out < 2 ^ 63 → All (IsMeant routine Means) fs → AllCompute routine Means (words (map routine fs)) 65536 fs
-image_computes routine Means fs out e small h =
-    let l : length out ≡ 4 * length (words (map routine fs)) = ap length e ∙ length-little_endian (words (map routine fs)) in
-    all_compute routine Means [] fs (omega arith) h
+-- a text that fits in memory runs
+pub text_computes : {F : Type 0} (routine : F → RoutineRecord) (Means : F → List ℕ → ℕ → Type 0) (fs : List F) → length (words (map routine fs)) ≤ 4194304 → All (IsMeant routine Means) fs → AllCompute routine Means (words (map routine fs)) 65536 fs
+text_computes routine Means fs few h = all_compute routine Means [] fs (omega arith) h

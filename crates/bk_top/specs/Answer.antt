@@ -1,43 +1,47 @@
 -- What the program answers to its words and its input.
-use Rattle.std.specs.Prelude.{◌≡◌, ℕ, ◌<◌, ◌≤◌, List, ◌++◌, length, take, map, sum_by, Option, IfSome, IsTrue, false, codes, ◌⊎◌}
+use Rattle.std.specs.Prelude.{◌≡◌, ℕ, ◌<◌, ◌≤◌, List, ◌++◌, length, take, map, sum_by, Option, IfSome, IsTrue, All, false, Ok, Err, codes, ◌⊎◌}
 use Rattle.std.specs.Fmt.{decimal}
 use Rattle.std.specs.Io.KnownBytes.{Appends}
 use Rattle.bk_io.specs.Faults.{Rose}
-use Rattle.bk_rv_isa.specs.Machine.{text_base}
+use Rattle.bk_elf.specs.declared.errors.LoadError.{LoadError}
+use Rattle.bk_elf.specs.File.{file_of}
+use Rattle.bk_elf.specs.Loading.{loaded}
 use Rattle.bk_func.specs.Records.{PackageRecord}
 use Rattle.bk_dump.specs.Print.{text_of}
 use Rattle.bk_dump.specs.Generate.{generated}
-use Rattle.bk_top.specs.declared.command.Command.{Command}
-use Rattle.bk_top.specs.declared.command.Command.TheVariants.{Compile, Check, Generate}
 use Rattle.bk_top.specs.declared.refusal.Refusal.{Refusal}
-use Rattle.bk_top.specs.declared.refusal.Refusal.TheVariants.{Words, ReadFault, TooLong, Syntax, Limit, Duplicate, Undefined, FormFault, NotYet, WriteFault, Memory}
+use Rattle.bk_top.specs.declared.refusal.Refusal.TheVariants.{Words, ReadFault, TooLong, Syntax, Limit, Duplicate, Undefined, FormFault, NotYet, Object, Function, Arguments, WriteFault, Memory}
 use Rattle.bk_top.specs.Narrow.{Narrow, IsNarrow}
-use Rattle.bk_top.specs.Commands.{Asks}
+use Rattle.bk_top.specs.Commands.{CommandRecord, compile_row, check_row, generate_row, run_row, Asks}
 use Rattle.bk_top.specs.Refusals.{status, line}
 use Rattle.bk_top.specs.Sums.{is_sums}
 use Rattle.bk_top.specs.Routine.{routine_of_narrow, routine_of}
 use Rattle.bk_top.specs.Meaning.{meaning, Returns}
-use Rattle.bk_top.specs.Code.{words, image}
-use Rattle.bk_top.specs.Runs.{AllCompute}
+use Rattle.bk_top.specs.Pieces.{narrow_piece, func_piece, name_in, object_of, AreNamed}
+use Rattle.bk_top.specs.Runs.{Serves}
+use Rattle.bk_top.specs.Running.{Runs, LacksFunction, Misfits}
 
 -- the text is within the limit of narrow texts and spells a list of narrow functions
 abbrev pub IsNarrowText : List ℕ → Type 0
 IsNarrowText text = (length text ≤ 65536) × ((functions : List Narrow) × IsNarrow text functions)
 
--- The bytes are the image of the functions that the text spells; on its words the machine computes what each function means.
+-- The bytes are the file of the object of the functions that the text spells, which is loaded as this object; there each
+-- function does what it means.
 pub record Translates (text bytes : List ℕ) : Type 0 where
   pub functions : List Narrow
   pub within : length text ≤ 65536
   pub spelled : IsNarrow text functions
-  pub image : bytes ≡ image (map routine_of_narrow functions)
-  pub computes : AllCompute routine_of_narrow (λ f args n. n ≡ meaning f args) (words (map routine_of_narrow functions)) text_base functions
+  pub file : bytes ≡ file_of (object_of (map narrow_piece functions))
+  pub loads : loaded bytes ≡ Ok (object_of (map narrow_piece functions))
+  pub serve : All (λ f. Serves (object_of (map narrow_piece functions)) f.name (routine_of_narrow f) (λ args n. n ≡ meaning f args)) functions
 
--- The bytes are the image of a package of sums; on its words the machine computes what each function returns.
+-- The bytes are the file of the object of a package of sums; there each function does what it returns.
 pub record TranslatesPackage (bytes : List ℕ) : Type 0 where
   pub pkg : PackageRecord
   pub adds : IsTrue (is_sums pkg)
-  pub image : bytes ≡ image (map routine_of pkg.funcs)
-  pub computes : AllCompute routine_of Returns (words (map routine_of pkg.funcs)) text_base pkg.funcs
+  pub file : bytes ≡ file_of (object_of (map (func_piece pkg.names) pkg.funcs))
+  pub loads : loaded bytes ≡ Ok (object_of (map (func_piece pkg.names) pkg.funcs))
+  pub serve : All (λ f. Serves (object_of (map (func_piece pkg.names) pkg.funcs)) (name_in pkg.names f) (routine_of f) (Returns f)) pkg.funcs
 
 -- what `compile` makes of a text: that of a narrow text by what it spells, that of another by the package that was read
 abbrev pub Compiles : List ℕ → List ℕ → Type 0
@@ -52,31 +56,70 @@ abbrev pub Checks : List ℕ → Type 0
 Checks bytes = (p : PackageRecord) × (bytes ≡ counts p)
 
 -- what a command makes of an input
-abbrev pub Makes : Command → Option (List ℕ) → List ℕ → Type 0
-Makes Compile input bytes = IfSome input (λ text. Compiles text bytes)
-Makes (Check target) input bytes = Checks bytes
-Makes (Generate n) input bytes = bytes ≡ text_of (generated n)
+abbrev pub Makes : CommandRecord → Option (List ℕ) → List ℕ → Type 0
+Makes compile_row input bytes = IfSome input (λ text. Compiles text bytes)
+Makes (check_row target) input bytes = Checks bytes
+Makes (generate_row n) input bytes = bytes ≡ text_of (generated n)
+Makes (run_row call) input bytes = IfSome input (λ object. Runs call object bytes)
 
--- a command that reads a package text
-abbrev pub ReadsText : Command → Type 0
-ReadsText Compile = Unit {0}
-ReadsText (Check target) = Unit {0}
-ReadsText (Generate n) = ⊥
+-- a command that reads its input
+abbrev pub ReadsInput : CommandRecord → Type 0
+ReadsInput compile_row = Unit {0}
+ReadsInput (check_row target) = Unit {0}
+ReadsInput (generate_row n) = ⊥
+ReadsInput (run_row call) = Unit {0}
+
+-- the most bytes of a package text and of an object
+abbrev pub text_limit : ℕ
+text_limit = 16777216
+
+abbrev pub object_limit : ℕ
+object_limit = 67108864
+
+-- the most bytes of a command's input
+abbrev pub input_limit : CommandRecord → ℕ
+input_limit compile_row = text_limit
+input_limit (check_row target) = text_limit
+input_limit (generate_row n) = text_limit
+input_limit (run_row call) = object_limit
 
 -- a text that a command leaves to the reader of packages
-abbrev pub IsLeft : Command → List ℕ → Type 0
-IsLeft Compile text = IsNarrowText text → ⊥
-IsLeft (Check target) text = Unit {0}
-IsLeft (Generate n) text = ⊥
+abbrev pub IsLeft : CommandRecord → List ℕ → Type 0
+IsLeft compile_row text = IsNarrowText text → ⊥
+IsLeft (check_row target) text = Unit {0}
+IsLeft (generate_row n) text = ⊥
+IsLeft (run_row call) text = ⊥
 
--- the command makes code, and the package that was read is none of sums
-abbrev pub IsNotYet : Command → Type 0
-IsNotYet Compile = (p : PackageRecord) × (is_sums p ≡ false)
-IsNotYet (Check target) = ⊥
-IsNotYet (Generate n) = ⊥
+-- the command makes code, and the package that was read is none of sums, or has names that no object holds
+abbrev pub IsNotYet : CommandRecord → Type 0
+IsNotYet compile_row = (p : PackageRecord) × ((is_sums p ≡ false) ⊎ (AreNamed (map (func_piece p.names) p.funcs) → ⊥))
+IsNotYet (check_row target) = ⊥
+IsNotYet (generate_row n) = ⊥
+IsNotYet (run_row call) = ⊥
+
+-- the command runs a function of an object, and its input is none
+abbrev pub IsNoObject : CommandRecord → List ℕ → LoadError → Type 0
+IsNoObject compile_row text e = ⊥
+IsNoObject (check_row target) text e = ⊥
+IsNoObject (generate_row n) text e = ⊥
+IsNoObject (run_row call) text e = loaded text ≡ Err e
+
+-- the command calls a function that is not there
+abbrev pub HasNone : CommandRecord → List ℕ → Type 0
+HasNone compile_row text = ⊥
+HasNone (check_row target) text = ⊥
+HasNone (generate_row n) text = ⊥
+HasNone (run_row call) text = LacksFunction call text
+
+-- the command calls a function by words that do not fit it
+abbrev pub HasOthers : CommandRecord → List ℕ → Type 0
+HasOthers compile_row text = ⊥
+HasOthers (check_row target) text = ⊥
+HasOthers (generate_row n) text = ⊥
+HasOthers (run_row call) text = Misfits call text
 
 -- a refusal of a command's text
-abbrev pub Spoils : Command → List ℕ → Refusal → Type 0
+abbrev pub Spoils : CommandRecord → List ℕ → Refusal → Type 0
 Spoils command text Words = ⊥
 Spoils command text ReadFault = ⊥
 Spoils command text TooLong = ⊥
@@ -86,22 +129,25 @@ Spoils command text (Duplicate n) = IsLeft command text
 Spoils command text (Undefined name) = IsLeft command text
 Spoils command text (FormFault func kind place) = IsLeft command text
 Spoils command text NotYet = IsLeft command text × IsNotYet command
+Spoils command text (Object e) = IsNoObject command text e
+Spoils command text Function = HasNone command text
+Spoils command text Arguments = HasOthers command text
 Spoils command text WriteFault = ⊥
 Spoils command text Memory = Unit {0}
 
 -- A refusal of a command: faults are counts that rose, want of memory is free, and all else is in the input.
-abbrev pub Stems : Command → Option (List ℕ) → ℕ → ℕ → Refusal → Type 0
+abbrev pub Stems : CommandRecord → Option (List ℕ) → ℕ → ℕ → Refusal → Type 0
 Stems command input before now Words = ⊥
 Stems command input before now WriteFault = ⊥
-Stems command input before now ReadFault = ReadsText command × Rose before now
-Stems command input before now TooLong = ReadsText command × IfSome input (λ text. 16777216 < length text)
+Stems command input before now ReadFault = ReadsInput command × Rose before now
+Stems command input before now TooLong = ReadsInput command × IfSome input (λ text. input_limit command < length text)
 Stems command input before now Memory = Unit {0}
-Stems command input before now refusal = ReadsText command × IfSome input (λ text. Spoils command text refusal)
+Stems command input before now refusal = ReadsInput command × IfSome input (λ text. Spoils command text refusal)
 
 -- why a refusal comes: no command has these words, or the refusal is one of theirs
 abbrev pub Cause : List (List ℕ) → Option (List ℕ) → ℕ → ℕ → Refusal → Type 0
-Cause words input before now Words = (command : Command) → Asks words command → ⊥
-Cause words input before now refusal = (command : Command) × Asks words command × Stems command input before now refusal
+Cause words input before now Words = (command : CommandRecord) → Asks words command → ⊥
+Cause words input before now refusal = (command : CommandRecord) × Asks words command × Stems command input before now refusal
 
 -- a count of faults has not risen
 abbrev pub NoFault : ℕ → ℕ → Type 0
@@ -113,7 +159,7 @@ AppendsFront before now bytes = (n : ℕ) × (n ≤ length bytes) × Appends bef
 
 -- the output gained what the command of the words makes
 pub record Gains (words : List (List ℕ)) (input before now : Option (List ℕ)) : Type 0 where
-  pub command : Command
+  pub command : CommandRecord
   pub asked : Asks words command
   pub bytes : List ℕ
   pub made : Makes command input bytes
@@ -121,13 +167,13 @@ pub record Gains (words : List (List ℕ)) (input before now : Option (List ℕ)
 
 -- the output gained a front of what the command of the words makes
 pub record GainsFront (words : List (List ℕ)) (input before now : Option (List ℕ)) : Type 0 where
-  pub command : Command
+  pub command : CommandRecord
   pub asked : Asks words command
   pub bytes : List ℕ
   pub made : Makes command input bytes
   pub gained : AppendsFront before now bytes
 
--- the output gained the image of the functions that the text spells
+-- the output gained the object of the functions that the text spells
 pub record Compiled (text : List ℕ) (before now : Option (List ℕ)) : Type 0 where
   pub bytes : List ℕ
   pub translates : Translates text bytes
@@ -150,6 +196,7 @@ IsPlain (Limit which n) = ⊥
 IsPlain (Duplicate n) = ⊥
 IsPlain (Undefined name) = ⊥
 IsPlain (FormFault func kind place) = ⊥
+IsPlain (Object e) = ⊥
 IsPlain refusal = Unit {0}
 
 -- a refusal of the reader of packages
@@ -162,9 +209,15 @@ IsReaders (FormFault func kind place) = Unit {0}
 IsReaders Memory = Unit {0}
 IsReaders refusal = ⊥
 
--- a refusal to read the input, or that of a text that is too long
-abbrev pub IsReading : Option (List ℕ) → ℕ → ℕ → Refusal → Type 0
-IsReading input before now ReadFault = Rose before now
-IsReading input before now TooLong = IfSome input (λ text. 16777216 < length text)
-IsReading input before now Memory = Unit {0}
-IsReading input before now refusal = ⊥
+-- a refusal to read an input of at most so many bytes
+abbrev pub IsReading : ℕ → Option (List ℕ) → ℕ → ℕ → Refusal → Type 0
+IsReading limit input before now ReadFault = Rose before now
+IsReading limit input before now TooLong = IfSome input (λ bytes. limit < length bytes)
+IsReading limit input before now Memory = Unit {0}
+IsReading limit input before now refusal = ⊥
+
+-- a refusal to load an object
+abbrev pub IsLoading : List ℕ → Refusal → Type 0
+IsLoading object (Object e) = loaded object ≡ Err e
+IsLoading object Memory = Unit {0}
+IsLoading object refusal = ⊥

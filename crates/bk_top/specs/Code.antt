@@ -1,5 +1,5 @@
 -- The code of routines.
-use Rattle.std.specs.Prelude.{◌≡◌, true, ℕ, pos, neg_ℤ, ◌+◌, ◌-◌, ◌*◌, List, [], ◌∷◌, ◌++◌, map}
+use Rattle.std.specs.Prelude.{◌≡◌, true, ℕ, pos, neg_ℤ, ◌+◌, ◌-◌, ◌*◌, List, [], ◌∷◌, ◌++◌}
 use Rattle.bk_rv_isa.specs.declared.inst.RegisterOp.TheVariants.{Add}
 use Rattle.bk_rv_isa.specs.declared.inst.ImmediateOp.TheVariants.{Addi}
 use Rattle.bk_rv_isa.specs.declared.inst.LoadOp.TheVariants.{Ld}
@@ -7,8 +7,7 @@ use Rattle.bk_rv_isa.specs.declared.inst.StoreOp.TheVariants.{Sd}
 use Rattle.bk_rv_isa.specs.declared.inst.BranchOp.TheVariants.{Bgeu}
 use Rattle.bk_rv_isa.specs.declared.inst.Inst.{Inst}
 use Rattle.bk_rv_isa.specs.declared.inst.Inst.TheVariants.{Op, OpImm, Load, Store, Branch, Jalr, Ebreak}
-use Rattle.bk_rv_isa.specs.Encoding.{word, fits}
-use Rattle.bk_num.specs.Bytes.{bytes}
+use Rattle.bk_rv_isa.specs.Encoding.{fits}
 use Rattle.bk_top.specs.declared.routine.Action.{Action}
 use Rattle.bk_top.specs.declared.routine.Action.TheVariants.{Argument, Sum, Deliver}
 use Rattle.bk_top.specs.Routine.{RoutineRecord}
@@ -45,20 +44,6 @@ ending f = Load Ld 1 2 (pos (f - 8)) ∷ OpImm Addi 2 2 (pos f) ∷ Jalr 0 1 (po
 
 abbrev pub code : RoutineRecord → List Inst
 code r = entry (frame r.slots) ++ (units (frame r.slots) r.arguments r.actions ++ ending (frame r.slots))
-
--- the words of routines, one behind the other
-abbrev pub words : List RoutineRecord → List ℕ
-words [] = []
-words (r ∷ rs) = map word (code r) ++ words rs
-
--- words as bytes, the low byte first
-unfoldable pub little_endian : List ℕ → List ℕ
-little_endian [] = []
-little_endian (w ∷ ws) = bytes 4 w ++ little_endian ws
-
--- the image: the words of all routines, and nothing else
-abbrev pub image : List RoutineRecord → List ℕ
-image rs = little_endian (words rs)
 
 -- each instruction has a word
 abbrev pub FitAll : List Inst → Type 0

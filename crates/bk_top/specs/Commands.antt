@@ -1,31 +1,72 @@
 -- The rows of words.
-use Rattle.std.specs.Prelude.{◌≡◌, ◌≢◌, ℕ, ◌<◌, ◌≤◌, List, [], ◌∷◌, length, slice_index, codes}
-use Rattle.std.specs.Fmt.{decimal}
+use Rattle.std.specs.Prelude.{◌≡◌, ◌≢◌, ℕ, ℤ, pos, negsuc, ◌^◌, ◌<◌, ◌≤◌, List, [], ◌∷◌, length, slice_index, All, codes, map, string_bytes}
+use Rattle.std.specs.Fmt.{decimal, signed_decimal}
 use Rattle.bk_ops.specs.declared.types.Target.{Target}
 use Rattle.bk_ops.specs.declared.types.Target.TheVariants.{Arm, Riscv64}
+use Rattle.bk_top.specs.declared.command.call.Call.{Call}
 use Rattle.bk_top.specs.declared.command.Command.{Command}
-use Rattle.bk_top.specs.declared.command.Command.TheVariants.{Compile, Check, Generate}
+use Rattle.bk_top.specs.declared.command.Command.TheVariants.{Compile, Check, Generate, Run}
+
+-- a function by its name, a bound on its run, and the words of its arguments
+pub record CallRecord : Type 0 where
+  pub name : List ℕ
+  pub bound : ℕ
+  pub args : List (List ℕ)
+
+-- what words may ask for
+pub data CommandRecord : Type 0 where
+  compile_row : CommandRecord
+  check_row : Target → CommandRecord
+  generate_row : ℕ → CommandRecord
+  run_row : CallRecord → CommandRecord
+
+abbrev pub seen_call : Call → CallRecord
+seen_call c = record { name = string_bytes c.name.now; bound = c.bound; args = map string_bytes c.args.now }
+
+abbrev pub seen : Command → CommandRecord
+seen Compile = compile_row
+seen (Check target) = check_row target
+seen (Generate n) = generate_row n
+seen (Run call) = run_row (seen_call call)
 
 abbrev pub target_word : Target → List ℕ
 target_word Arm = codes "arm"
 target_word Riscv64 = codes "riscv64"
 
+abbrev pub call_words : CallRecord → List (List ℕ)
+call_words c = c.name ∷ decimal c.bound ∷ c.args
+
+-- the words of a command
+abbrev pub words_of : CommandRecord → List (List ℕ)
+words_of compile_row = codes "compile" ∷ codes "riscv64" ∷ codes "1" ∷ []
+words_of (check_row target) = codes "check" ∷ target_word target ∷ []
+words_of (generate_row n) = codes "gen" ∷ decimal n ∷ []
+words_of (run_row call) = codes "run" ∷ call_words call
+
 -- digits that have no sign and no leading zero
 abbrev pub IsCanonical : List ℕ → Type 0
 IsCanonical digits = (slice_index digits 0 ≢ 43) × (1 < length digits → slice_index digits 0 ≢ 48)
 
--- the words of a command
-abbrev pub words_of : Command → List (List ℕ)
-words_of Compile = codes "compile" ∷ codes "riscv64" ∷ codes "1" ∷ []
-words_of (Check target) = codes "check" ∷ target_word target ∷ []
-words_of (Generate n) = codes "gen" ∷ decimal n ∷ []
+-- a number from -2^63 to 2^64 - 1
+abbrev pub IsArgument : ℤ → Type 0
+IsArgument (pos n) = n < 2 ^ 64
+IsArgument (negsuc n) = n < 2 ^ 63
+
+-- a word that spells such a number
+abbrev pub SpellsArgument : List ℕ → Type 0
+SpellsArgument word = (z : ℤ) × IsArgument z × (word ≡ signed_decimal z)
+
+-- the numbers of a call are in their ranges
+abbrev pub IsCall : CallRecord → Type 0
+IsCall c = (c.bound < 2 ^ 64) × All SpellsArgument c.args
 
 -- the numbers of a command are in their ranges
-abbrev pub IsInRange : Command → Type 0
-IsInRange Compile = Unit {0}
-IsInRange (Check target) = Unit {0}
-IsInRange (Generate n) = (1 ≤ n) × (n ≤ 4096)
+abbrev pub IsInRange : CommandRecord → Type 0
+IsInRange compile_row = Unit {0}
+IsInRange (check_row target) = Unit {0}
+IsInRange (generate_row n) = (1 ≤ n) × (n ≤ 4096)
+IsInRange (run_row call) = IsCall call
 
 -- the words ask for the command
-abbrev pub Asks : List (List ℕ) → Command → Type 0
+abbrev pub Asks : List (List ℕ) → CommandRecord → Type 0
 Asks words command = (words ≡ words_of command) × IsInRange command

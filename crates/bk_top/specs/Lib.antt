@@ -4,10 +4,14 @@ pub mod Decimal
 pub mod Reading
 pub mod Narrow
 pub mod Commands
+pub mod Arguments
+pub mod Outcomes
+pub mod Running
 pub mod Refusals
 pub mod Sums
 pub mod Routine
 pub mod Meaning
 pub mod Code
+pub mod Pieces
 pub mod Runs
 pub mod Answer

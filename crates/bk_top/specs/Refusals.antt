@@ -7,8 +7,10 @@ use Rattle.bk_form.specs.declared.FormKind.{FormKind}
 use Rattle.bk_form.specs.declared.FormKind.TheVariants as kind
 use Rattle.bk_form.specs.declared.Place.{Place}
 use Rattle.bk_form.specs.declared.Place.TheVariants.{Block, Value}
+use Rattle.bk_elf.specs.declared.errors.LoadError.{LoadError}
+use Rattle.bk_elf.specs.declared.errors.LoadError.TheVariants as why
 use Rattle.bk_top.specs.declared.refusal.Refusal.{Refusal}
-use Rattle.bk_top.specs.declared.refusal.Refusal.TheVariants.{Words, ReadFault, TooLong, Syntax, Limit, Duplicate, Undefined, FormFault, NotYet, WriteFault, Memory}
+use Rattle.bk_top.specs.declared.refusal.Refusal.TheVariants.{Words, ReadFault, TooLong, Syntax, Limit, Duplicate, Undefined, FormFault, NotYet, Object, Function, Arguments, WriteFault, Memory}
 
 abbrev pub status : Refusal → ℕ
 status Words = 2
@@ -20,6 +22,9 @@ status (Duplicate line) = 3
 status (Undefined name) = 3
 status (FormFault func kind place) = 3
 status NotYet = 3
+status (Object e) = 8
+status Function = 10
+status Arguments = 10
 status WriteFault = 5
 status Memory = 6
 
@@ -47,6 +52,19 @@ abbrev pub place_name : Place → List ℕ
 place_name (Block id) = codes "b" ++ decimal id
 place_name (Value id) = codes "v" ++ decimal id
 
+-- why a file is no object; want of memory is told as such
+abbrev pub object_fault : LoadError → List ℕ
+object_fault why.NotElf = codes "not ELF\n"
+object_fault (why.BadHeader place) = codes "header " ++ (decimal place ++ codes "\n")
+object_fault (why.BadSection n) = codes "section " ++ (decimal n ++ codes "\n")
+object_fault why.Truncated = codes "truncated\n"
+object_fault why.Memory = codes "memory\n"
+
+-- the refusal of a file that is not loaded
+abbrev pub refusal_of_load : LoadError → Refusal
+refusal_of_load why.Memory = Memory
+refusal_of_load e = Object e
+
 -- the line on the error stream
 unfoldable pub line : Refusal → List ℕ
 line Words = codes "words\n"
@@ -59,5 +77,8 @@ line (Undefined name) = codes "undefined " ++ (string_bytes name ++ codes "\n")
 line (FormFault func kind place) =
     codes "function " ++ (string_bytes func ++ (codes ": form " ++ (kind_name kind ++ (codes " " ++ (place_name place ++ codes "\n")))))
 line NotYet = codes "not yet\n"
+line (Object e) = codes "object: " ++ object_fault e
+line Function = codes "function\n"
+line Arguments = codes "arguments\n"
 line WriteFault = codes "write fault\n"
 line Memory = codes "memory\n"

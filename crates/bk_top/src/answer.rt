@@ -1,47 +1,63 @@
 //! What the program makes of its command and its input.
 
 ghost use Rattle.std.specs.Prelude.{◌≡◌, IfOk, IfErr};
-ghost use Rattle.bk_top.specs.Commands.{IsInRange};
-ghost use Rattle.bk_top.specs.Answer.{Makes, Stems, ReadsText};
+ghost use Rattle.bk_top.specs.Commands.{compile_row, check_row, run_row, seen_call, seen, IsInRange};
+ghost use Rattle.bk_top.specs.Answer.{Makes, Stems, ReadsInput};
 
 use crate::command::Command;
+use crate::command::call::Call;
 use crate::refusal::Refusal;
 use crate::rows::check::check;
 use crate::rows::compile::compile;
 use crate::rows::generate::generated_text;
-use crate::rows::input::text_of;
+use crate::rows::input::{OBJECT_LIMIT, TEXT_LIMIT, bytes_of};
+use crate::rows::run::run;
 use bk_io::Source;
 use bk_ops::Target;
 use std::alloc::Global;
 
 /// `compile`, from the input.
 fn answer_compile<S: Source>(alloc: Global, input: &mut S) -> Result<Vec<u8>, Refusal>
-    ensures made { IfOk result (λ bytes. Makes Command.Compile (S.left input.old) bytes.items) }
-    ensures cause { IfErr result (Stems Command.Compile (S.left input.old) (S.faults input.old) (S.faults input.new)) }
+    ensures made { IfOk result (λ bytes. Makes compile_row (S.left input.old) bytes.items) }
+    ensures cause { IfErr result (Stems compile_row (S.left input.old) (S.faults input.old) (S.faults input.new)) }
 {
-    let text = text_of(alloc, input)?;
+    let text = bytes_of(alloc, input, TEXT_LIMIT)?;
     compile(alloc, &text)
 }
 
 /// `check`, from the input.
 fn answer_check<S: Source>(alloc: Global, input: &mut S, target: Target) -> Result<Vec<u8>, Refusal>
-    ensures made { IfOk result (λ bytes. Makes (Command.Check target) (S.left input.old) bytes.items) }
-    ensures cause { IfErr result (Stems (Command.Check target) (S.left input.old) (S.faults input.old) (S.faults input.new)) }
+    ensures made { IfOk result (λ bytes. Makes (check_row target) (S.left input.old) bytes.items) }
+    ensures cause { IfErr result (Stems (check_row target) (S.left input.old) (S.faults input.old) (S.faults input.new)) }
 {
-    let text = text_of(alloc, input)?;
+    let text = bytes_of(alloc, input, TEXT_LIMIT)?;
     check(alloc, &text, target)
 }
 
+/// `run`, from the input.
+fn answer_run<S: Source>(alloc: Global, input: &mut S, call: Call<'_>) -> Result<Vec<u8>, Refusal>
+    ensures made { IfOk result (λ bytes. Makes (run_row (seen_call call.entry)) (S.left input.old) bytes.items) }
+    ensures cause { IfErr result (Stems (run_row (seen_call call.entry)) (S.left input.old) (S.faults input.old) (S.faults input.new)) }
+{
+    let object = bytes_of(alloc, input, OBJECT_LIMIT)?;
+    run(alloc, &object, call)
+}
+
 /// The bytes that a command asks for.
-pub fn answer<S: Source>(alloc: Global, command: Command, input: &mut S) -> Result<Vec<u8>, Refusal>
-    requires { IsInRange command }
-    ensures made { IfOk result (λ bytes. Makes command (S.left input.old) bytes.items) }
-    ensures cause { IfErr result (Stems command (S.left input.old) (S.faults input.old) (S.faults input.new)) }
-    ensures unread { (ReadsText command → ⊥) → input.new ≡ input.old }
+pub fn answer<S: Source>(
+    alloc: Global,
+    command: Command<'_>,
+    input: &mut S,
+) -> Result<Vec<u8>, Refusal>
+    requires { IsInRange (seen command) }
+    ensures made { IfOk result (λ bytes. Makes (seen command.entry) (S.left input.old) bytes.items) }
+    ensures cause { IfErr result (Stems (seen command.entry) (S.left input.old) (S.faults input.old) (S.faults input.new)) }
+    ensures unread { (ReadsInput (seen command.entry) → ⊥) → input.new ≡ input.old }
 {
     match command {
         Command::Compile => answer_compile(alloc, input),
         Command::Check(target) => answer_check(alloc, input, target),
+        Command::Run(call) => answer_run(alloc, input, call),
         Command::Generate(count) => match generated_text(alloc, count) {
             Ok(text) => Ok(text),
             Err(_) => Err(Refusal::Memory),

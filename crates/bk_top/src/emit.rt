@@ -2,9 +2,8 @@
 
 ghost use Rattle.std.specs.Prelude.{◌≡◌, ◌*◌, ◌≤◌, ◌++◌, [], ◌∷◌, pos, map, OnOk, IfOk, IsTrue, All};
 ghost use Rattle.bk_rv_isa.specs.Encoding.{fits, word};
-ghost use Rattle.bk_num.specs.Bytes.{bytes};
 ghost use Rattle.bk_top.specs.Routine.{IsWithin, FitsFrame};
-ghost use Rattle.bk_top.specs.Code.{frame, entry, unit, units, ending, code, little_endian, FitAll};
+ghost use Rattle.bk_top.specs.Code.{frame, entry, unit, units, ending, code, FitAll};
 
 use crate::routine::{Action, Routine};
 use bk_rv_isa::{BranchOp, ImmediateOp, Inst, LoadOp, RegisterOp, StoreOp, encode};
@@ -120,15 +119,14 @@ fn emit(alloc: Global, routine: &Routine) -> Result<Vec<Inst>, AllocError>
     Ok(code)
 }
 
-/// Adds an instruction's word, the low byte first.
-#[tactic(auto, using(crate::proofs::Bytes::four_bytes))]
-fn put_word(out: &mut Vec<u8>, inst: Inst) -> Result<(), AllocError>
+/// Adds an instruction's word.
+fn put_word(words: &mut Vec<u32>, inst: Inst) -> Result<(), AllocError>
     requires { IsTrue (fits inst) }
-    ensures { OnOk result (out.new.items ≡ out.old.items ++ bytes 4 (word inst)) }
+    ensures { OnOk result (words.new.items ≡ words.old.items ++ word inst ∷ []) }
 {
     match encode(inst) {
         Some(word) => {
-            out.extend_from_slice(&word.to_le_bytes())?;
+            words.push(word)?;
             Ok(())
         }
         None => Ok(()),
@@ -136,22 +134,23 @@ fn put_word(out: &mut Vec<u8>, inst: Inst) -> Result<(), AllocError>
 }
 
 /// Adds the words of the instructions.
-#[tactic(auto, unfolding(crate::specs::Code::little_endian))]
-fn put_words(out: &mut Vec<u8>, code: &[Inst]) -> Result<(), AllocError>
+fn put_words(words: &mut Vec<u32>, code: &[Inst]) -> Result<(), AllocError>
     requires { FitAll code.now }
-    ensures { OnOk result (out.new.items ≡ out.old.items ++ little_endian (map word code.now)) }
+    ensures { OnOk result (words.new.items ≡ words.old.items ++ map word code.now) }
 {
     for inst in code {
-        put_word(out, *inst)?;
+        put_word(words, *inst)?;
     }
     Ok(())
 }
 
-/// Adds the words of a routine's code, the low byte first.
-pub fn put_routine(alloc: Global, out: &mut Vec<u8>, routine: &Routine) -> Result<(), AllocError>
+/// The words of a routine's code.
+pub fn words_of(alloc: Global, routine: &Routine) -> Result<Vec<u32>, AllocError>
     requires { FitsFrame routine.now }
-    ensures { OnOk result (out.new.items ≡ out.old.items ++ little_endian (map word (code routine.now))) }
+    ensures { IfOk result (λ words. words.items ≡ map word (code routine.now)) }
 {
     let code = emit(alloc, routine)?;
-    put_words(out, &code)
+    let mut words = Vec::new(alloc);
+    put_words(&mut words, &code)?;
+    Ok(words)
 }

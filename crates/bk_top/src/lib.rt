@@ -6,6 +6,7 @@ mod command;
 mod emit;
 mod line;
 mod narrow;
+mod object;
 mod program;
 mod refusal;
 mod routine;

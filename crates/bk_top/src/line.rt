@@ -6,6 +6,7 @@ ghost use Rattle.bk_top.specs.Answer.{IsPlain};
 
 use crate::refusal::Refusal;
 use bk_dump::Which;
+use bk_elf::LoadError;
 use bk_form::{FormKind, Place};
 use std::alloc::{AllocError, Global};
 
@@ -70,6 +71,19 @@ fn form_line(
     format!(in alloc; "function {func}: form {kind} {place}\n")
 }
 
+#[tactic(auto, unfolding(crate::specs::Refusals::line))]
+fn object_line(alloc: Global, error: LoadError) -> Result<String, AllocError>
+    ensures { IfOk result (λ text. string_bytes text ≡ line (Refusal.Object error)) }
+{
+    match error {
+        LoadError::NotElf => String::from_str(alloc, "object: not ELF\n"),
+        LoadError::BadHeader { field } => format!(in alloc; "object: header {field}\n"),
+        LoadError::BadSection { n } => format!(in alloc; "object: section {n}\n"),
+        LoadError::Truncated => String::from_str(alloc, "object: truncated\n"),
+        LoadError::Memory => String::from_str(alloc, "object: memory\n"),
+    }
+}
+
 /// The line of a refusal that tells no more than its cause.
 #[tactic(auto, unfolding(crate::specs::Refusals::line))]
 pub fn plain_line(refusal: &Refusal) -> Option<&'static str>
@@ -80,6 +94,8 @@ pub fn plain_line(refusal: &Refusal) -> Option<&'static str>
         Refusal::Words => Some("words\n"),
         Refusal::TooLong => Some("too long\n"),
         Refusal::NotYet => Some("not yet\n"),
+        Refusal::Function => Some("function\n"),
+        Refusal::Arguments => Some("arguments\n"),
         Refusal::ReadFault => Some("read fault\n"),
         Refusal::WriteFault => Some("write fault\n"),
         Refusal::Memory => Some("memory\n"),
@@ -87,7 +103,8 @@ pub fn plain_line(refusal: &Refusal) -> Option<&'static str>
         | Refusal::Limit { .. }
         | Refusal::Duplicate { .. }
         | Refusal::Undefined { .. }
-        | Refusal::FormFault { .. } => None,
+        | Refusal::FormFault { .. }
+        | Refusal::Object(_) => None,
     }
 }
 
@@ -105,6 +122,9 @@ pub fn line(alloc: Global, refusal: &Refusal) -> Result<String, AllocError>
         Refusal::Words => String::from_str(alloc, "words\n"),
         Refusal::TooLong => String::from_str(alloc, "too long\n"),
         Refusal::NotYet => String::from_str(alloc, "not yet\n"),
+        Refusal::Object(error) => object_line(alloc, *error),
+        Refusal::Function => String::from_str(alloc, "function\n"),
+        Refusal::Arguments => String::from_str(alloc, "arguments\n"),
         Refusal::ReadFault => String::from_str(alloc, "read fault\n"),
         Refusal::WriteFault => String::from_str(alloc, "write fault\n"),
         Refusal::Memory => String::from_str(alloc, "memory\n"),

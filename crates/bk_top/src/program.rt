@@ -2,12 +2,11 @@
 
 ghost use Rattle.std.specs.Prelude.{◌≡◌, ◌≢◌, ◌≤◌, ◌⊎◌, ℕ, IfSome, map, string_bytes};
 ghost use Rattle.bk_io.specs.Faults.{Rose};
-ghost use Rattle.bk_top.specs.declared.command.Command.{Command};
-ghost use Rattle.bk_top.specs.Commands.{words_of, Asks};
-ghost use Rattle.bk_top.specs.Answer.{IsNarrowText, NoFault, ReadsText, Gains, GainsFront, Compiled, Refused};
+ghost use Rattle.bk_top.specs.Commands.{CommandRecord, compile_row, words_of, Asks};
+ghost use Rattle.bk_top.specs.Answer.{IsNarrowText, NoFault, ReadsInput, Gains, GainsFront, Compiled, Refused};
 
 use crate::answer::answer;
-use crate::command::{Command, command_of};
+use crate::command::command_of;
 use crate::refusal::Refusal;
 use crate::tell::tell;
 use bk_io::{Gate, Sink, Source, write_all};
@@ -15,9 +14,10 @@ use std::alloc::Global;
 
 /// Runs the command that the words name: the bytes that it makes go to `out`, a refusal's line to `err`.
 ///
-/// The rows of words are `compile riscv64 1`, `check TARGET` and `gen N`. `extra` is not read and `gate` not asked
-/// by these rows. The status is 0, or that of the refusal: 2 where the words are in no row, 3 where the text is
-/// refused, 4 after a failed read, 5 after a failed write, 6 without memory.
+/// The rows of words are `compile riscv64 1`, `check TARGET`, `gen N` and `run NAME BOUND ARG..`. `extra` is not read
+/// and `gate` not asked by these rows. The status is 0, or that of the refusal: 2 where the words are in no row, 3 where
+/// the text is refused, 4 after a failed read, 5 after a failed write, 6 without memory, 8 where the input is no object,
+/// 10 where it has no such function or the arguments do not fit.
 pub fn backend<S: Source, X: Source, K: Sink, E: Sink, G: Gate>(
     alloc: Global,
     words: &[String],
@@ -27,22 +27,22 @@ pub fn backend<S: Source, X: Source, K: Sink, E: Sink, G: Gate>(
     err: &mut E,
     _gate: &G,
 ) -> u8
-    ensures known { (result ≡ 0) ⊎ ((2 ≤ result) × (result ≤ 6)) }
+    ensures known { (result ≡ 0) ⊎ ((2 ≤ result) × (result ≤ 6)) ⊎ (result ≡ 8) ⊎ (result ≡ 10) }
 
     // What the program gives.
     ensures made { result ≡ 0 → Gains (map string_bytes words.now) (S.left input.old) (K.written out.old) (K.written out.new) }
-    ensures compiled { result ≡ 0 → map string_bytes words.now ≡ words_of Command.Compile → IfSome (S.left input.old) (λ text. IsNarrowText text → Compiled text (K.written out.old) (K.written out.new)) }
-    ensures complete { IfSome (S.left input.old) (λ text. map string_bytes words.now ≡ words_of Command.Compile → IsNarrowText text → NoFault (S.faults input.old) (S.faults input.new) → NoFault (K.faults out.old) (K.faults out.new) → NoFault (E.faults err.old) (E.faults err.new) → (result ≡ 0) ⊎ (result ≡ 6)) }
+    ensures compiled { result ≡ 0 → map string_bytes words.now ≡ words_of compile_row → IfSome (S.left input.old) (λ text. IsNarrowText text → Compiled text (K.written out.old) (K.written out.new)) }
+    ensures complete { IfSome (S.left input.old) (λ text. map string_bytes words.now ≡ words_of compile_row → IsNarrowText text → NoFault (S.faults input.old) (S.faults input.new) → NoFault (K.faults out.old) (K.faults out.new) → NoFault (E.faults err.old) (E.faults err.new) → (result ≡ 0) ⊎ (result ≡ 6)) }
 
     // When each status comes.
     ensures refused { result ≢ 0 → result ≢ 5 → Refused (map string_bytes words.now) (S.left input.old) (S.faults input.old) (S.faults input.new) result (E.written err.old) (E.written err.new) }
-    ensures words { result ≡ 2 → (command : Command) → Asks (map string_bytes words.now) command → ⊥ }
-    ensures only_words { ((command : Command) → Asks (map string_bytes words.now) command → ⊥) → (result ≡ 2) ⊎ ((result ≡ 5) × Rose (E.faults err.old) (E.faults err.new)) }
+    ensures words { result ≡ 2 → (command : CommandRecord) → Asks (map string_bytes words.now) command → ⊥ }
+    ensures only_words { ((command : CommandRecord) → Asks (map string_bytes words.now) command → ⊥) → (result ≡ 2) ⊎ ((result ≡ 5) × Rose (E.faults err.old) (E.faults err.new)) }
     ensures read_fault { result ≡ 4 → Rose (S.faults input.old) (S.faults input.new) }
     ensures write_fault { result ≡ 5 → Rose (K.faults out.old) (K.faults out.new) ⊎ Rose (E.faults err.old) (E.faults err.new) }
 
     // What stands on the streams after it.
-    ensures unread { ((command : Command) → Asks (map string_bytes words.now) command → ReadsText command → ⊥) → input.new ≡ input.old }
+    ensures unread { ((command : CommandRecord) → Asks (map string_bytes words.now) command → ReadsInput command → ⊥) → input.new ≡ input.old }
     ensures no_extra { _extra.new ≡ _extra.old }
     ensures nothing { result ≢ 0 → result ≢ 5 → out.new ≡ out.old }
     ensures front { result ≡ 5 → (out.new ≡ out.old) ⊎ GainsFront (map string_bytes words.now) (S.left input.old) (K.written out.old) (K.written out.new) }

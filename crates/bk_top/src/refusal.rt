@@ -3,7 +3,8 @@
 ghost use Rattle.std.specs.Prelude.{◌≡◌};
 ghost use Rattle.bk_top.specs.Refusals.{status};
 
-use bk_dump::{DumpError, Which};
+use bk_dump::Which;
+use bk_elf::LoadError;
 use bk_form::{FormKind, Place};
 
 /// Why the program did not do what its words ask.
@@ -40,6 +41,12 @@ pub enum Refusal {
     },
     /// No code is made of such a package yet.
     NotYet,
+    /// The input is no object.
+    Object(LoadError),
+    /// No function has the name.
+    Function,
+    /// The arguments do not fit the function.
+    Arguments,
     /// A write failed.
     WriteFault,
     /// There was no memory.
@@ -59,6 +66,8 @@ pub fn status(refusal: &Refusal) -> u8
         | Refusal::Undefined { .. }
         | Refusal::FormFault { .. }
         | Refusal::NotYet => 3,
+        Refusal::Object(_) => 8,
+        Refusal::Function | Refusal::Arguments => 10,
         Refusal::ReadFault => 4,
         Refusal::WriteFault => 5,
         Refusal::Memory => 6,

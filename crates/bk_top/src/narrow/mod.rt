@@ -7,7 +7,7 @@ pub mod reader;
 pub mod routine;
 
 pub use package::{Function, Value};
-pub use reader::read_narrow;
+pub use reader::{are_distinct, read_narrow};
 
 #[cfg(test)]
 mod tests;

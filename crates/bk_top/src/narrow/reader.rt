@@ -104,7 +104,7 @@ fn read_function(alloc: Global, text: &[u8]) -> Result<Option<(Function, &[u8])>
 }
 
 /// Whether no two names are the same.
-fn are_distinct(names: &[String]) -> bool
+pub fn are_distinct(names: &[String]) -> bool
     ensures { IsTrue result ↔ Differ (spellings names.now) }
 {
     for (place, name) in names.iter().enumerate() {

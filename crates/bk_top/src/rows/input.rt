@@ -1,4 +1,4 @@
-//! The package of the input.
+//! The input: its bytes, and the package that they spell.
 
 ghost use Rattle.std.specs.Prelude.{◌≡◌, ◌⊎◌, IfOk, IfErr, IfSome};
 ghost use Rattle.bk_top.specs.Answer.{IsReading, IsReaders};
@@ -11,15 +11,18 @@ use bk_ops::Target;
 use std::alloc::Global;
 
 /// The most bytes of a package text.
-const TEXT_LIMIT: usize = 16_777_216;
+pub const TEXT_LIMIT: usize = 16_777_216;
 
-/// All bytes of the input.
-pub fn text_of<S: Source>(alloc: Global, input: &mut S) -> Result<Vec<u8>, Refusal>
-    ensures text { IfOk result (λ text. IfSome (S.left input.old) (λ left. text.items ≡ left)) }
-    ensures cause { IfErr result (λ r. IsReading (S.left input.old) (S.faults input.old) (S.faults input.new) r) }
+/// The most bytes of an object.
+pub const OBJECT_LIMIT: usize = 67_108_864;
+
+/// All bytes of the input, at most so many.
+pub fn bytes_of<S: Source>(alloc: Global, input: &mut S, limit: usize) -> Result<Vec<u8>, Refusal>
+    ensures bytes { IfOk result (λ bytes. IfSome (S.left input.old) (λ left. bytes.items ≡ left)) }
+    ensures cause { IfErr result (IsReading limit (S.left input.old) (S.faults input.old) (S.faults input.new)) }
 {
-    match read_all(alloc, input, TEXT_LIMIT) {
-        Ok(text) => Ok(text),
+    match read_all(alloc, input, limit) {
+        Ok(bytes) => Ok(bytes),
         Err(ReadError::ReadFault) => Err(Refusal::ReadFault),
         Err(ReadError::TooLong) => Err(Refusal::TooLong),
         Err(ReadError::Memory) => Err(Refusal::Memory),

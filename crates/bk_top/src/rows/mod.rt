@@ -1,6 +1,9 @@
 //! What each row of words makes.
 
+pub mod call;
 pub mod check;
 pub mod compile;
 pub mod generate;
 pub mod input;
+pub mod outcome;
+pub mod run;

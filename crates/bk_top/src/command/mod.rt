@@ -1,0 +1,118 @@
+//! The rows of words.
+
+ghost use Rattle.std.specs.Prelude.{◌≡◌, ◌↔◌, ◌≤◌, ℕ, ◌∷◌, codes, map, string_bytes, IfSome, IfNone, IsTrue};
+ghost use Rattle.std.specs.Fmt.{decimal};
+ghost use Rattle.bk_top.specs.Commands.{CommandRecord, seen, target_word, Asks};
+
+pub mod call;
+pub mod number;
+
+use crate::command::call::{Call, call_of};
+use crate::command::number::number_of;
+use bk_ops::Target;
+
+/// What the words ask for.
+#[derive(Clone, Copy)]
+pub enum Command<'a> {
+    /// `compile riscv64 1`: the code of the package that is read.
+    Compile,
+    /// `check TARGET`: the counts of the package that is read.
+    Check(Target),
+    /// `gen N`: the text of a package of N functions that is made by a rule.
+    Generate(u64),
+    /// `run NAME BOUND ARG..`: how a call of a function of the object that is read ends.
+    Run(Call<'a>),
+}
+
+/// The most functions of a generated package.
+const MOST_FUNCTIONS: u64 = 4096;
+
+fn is_text(word: &String, text: &str) -> bool
+    ensures { IsTrue result ↔ string_bytes word.now ≡ text.now }
+{
+    word.as_str() == text
+}
+
+fn target_of(word: &String) -> Option<Target>
+    ensures found { IfSome result (λ target. string_bytes word.now ≡ target_word target) }
+    ensures none { IfNone result ((target : Target) → string_bytes word.now ≡ target_word target → ⊥) }
+{
+    if is_text(word, "arm") {
+        Some(Target::Arm)
+    } else if is_text(word, "riscv64") {
+        Some(Target::Riscv64)
+    } else {
+        None
+    }
+}
+
+/// The count of functions that a word spells, 1 to 4,096.
+fn count_of(word: &String) -> Option<u64>
+    ensures found { IfSome result (λ n. (string_bytes word.now ≡ decimal n) × (1 ≤ n) × (n ≤ 4096)) }
+    ensures none { IfNone result ((n : ℕ) → string_bytes word.now ≡ decimal n → 1 ≤ n → n ≤ 4096 → ⊥) }
+{
+    let count = number_of(word)?;
+    if 1 <= count && count <= MOST_FUNCTIONS {
+        Some(count)
+    } else {
+        None
+    }
+}
+
+fn compile(others: &[String]) -> Option<Command<'_>>
+    ensures found { IfSome result (λ c. Asks (codes "compile" ∷ map string_bytes others.now) (seen c)) }
+    ensures none { IfNone result ((c : CommandRecord) → Asks (codes "compile" ∷ map string_bytes others.now) c → ⊥) }
+{
+    match others {
+        [target, workers] if is_text(target, "riscv64") && is_text(workers, "1") => Some(
+            Command::Compile,
+        ),
+        _ => None,
+    }
+}
+
+fn check(others: &[String]) -> Option<Command<'_>>
+    ensures found { IfSome result (λ c. Asks (codes "check" ∷ map string_bytes others.now) (seen c)) }
+    ensures none { IfNone result ((c : CommandRecord) → Asks (codes "check" ∷ map string_bytes others.now) c → ⊥) }
+{
+    match others {
+        [target] => Some(Command::Check(target_of(target)?)),
+        _ => None,
+    }
+}
+
+fn generate(others: &[String]) -> Option<Command<'_>>
+    ensures found { IfSome result (λ c. Asks (codes "gen" ∷ map string_bytes others.now) (seen c)) }
+    ensures none { IfNone result ((c : CommandRecord) → Asks (codes "gen" ∷ map string_bytes others.now) c → ⊥) }
+{
+    match others {
+        [count] => Some(Command::Generate(count_of(count)?)),
+        _ => None,
+    }
+}
+
+fn run(others: &[String]) -> Option<Command<'_>>
+    ensures found { IfSome result (λ c. Asks (codes "run" ∷ map string_bytes others.now) (seen c)) }
+    ensures none { IfNone result ((c : CommandRecord) → Asks (codes "run" ∷ map string_bytes others.now) c → ⊥) }
+{
+    Some(Command::Run(call_of(others)?))
+}
+
+/// The command of the words; None where they are in no row.
+pub fn command_of(words: &[String]) -> Option<Command<'_>>
+    ensures found { IfSome result (λ c. Asks (map string_bytes words.now) (seen c)) }
+    ensures none { IfNone result ((c : CommandRecord) → Asks (map string_bytes words.now) c → ⊥) }
+{
+    let (name, others) = words.split_first()?;
+    if is_text(name, "compile") {
+        compile(others)
+    } else if is_text(name, "check") {
+        check(others)
+    } else if is_text(name, "gen") {
+        generate(others)
+    } else if is_text(name, "run") {
+        run(others)
+    } else {
+        None
+    }
+}
