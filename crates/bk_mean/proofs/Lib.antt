@@ -1,0 +1,4 @@
+pub mod Fits
+pub mod Many
+pub mod Spelt
+pub mod Windows
