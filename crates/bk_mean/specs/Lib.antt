@@ -1,3 +1,4 @@
+pub mod Arranged
 pub mod Eval
 pub mod Machine
 pub mod Numbering

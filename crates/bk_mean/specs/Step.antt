@@ -1,8 +1,15 @@
 -- One value of a block in its turn, as the meaning has it.
-use Rattle.std.specs.Prelude.{◌≡◌, ℕ, ◌+◌, ◌<◌, ◌≤◌, ◌%◌, ◌^◌, true, List, length, map, slice_index, slice_set, Option, Some, None}
+use Rattle.std.specs.Prelude.{◌≡◌, ℕ, ◌<◌, ◌≤◌, Bool, true, false, List, length, map, slice_index, slice_set, Option, Some, None}
 use Rattle.bk_ops.specs.Table.{is_op}
+use Rattle.bk_ops.specs.Types.{size_of_ty}
+use Rattle.bk_ops.specs.declared.family.Family.{Family}
+use Rattle.bk_ops.specs.declared.family.Family.TheVariants as op
+use Rattle.bk_ops.specs.declared.family.ArmOp.TheVariants as arm
+use Rattle.bk_ops.specs.declared.family.RvOp.TheVariants as rv
 use Rattle.bk_ops.specs.declared.types.Target.{Target}
 use Rattle.bk_ops.specs.declared.types.Ty.{Ty}
+use Rattle.bk_func.specs.declared.parts.Aux.{Aux}
+use Rattle.bk_func.specs.declared.parts.Aux.TheVariants as beside
 use Rattle.bk_func.specs.Records.{ValueRecord, FuncRecord}
 use Rattle.bk_func.specs.Numbers.{Program, Env, Origin, phi, result, loaded, checked, same, computed, natural, load_size, number_by, state_of, address_of}
 use Rattle.bk_func.specs.Effects as fx
@@ -84,3 +91,17 @@ after_run On a w = gives a w
 after_run (Trap n) a w = stops (trapped n) w.window
 after_run (Wild x) a w = stops (wild x) w.window
 after_run Call a w = gives a w
+
+-- the ops that store a number of a type that stands beside them, and those that store one byte
+abbrev pub is_store : Family → Bool
+is_store op.Store = true
+is_store _ = false
+
+abbrev pub is_byte_store : Family → Bool
+is_byte_store (op.Arm arm.StoreB) = true
+is_byte_store (op.Rv rv.StoreB) = true
+is_byte_store _ = false
+
+abbrev pub size_beside : Target → Aux → ℕ
+size_beside t (beside.Ty ty) = size_of_ty ty t
+size_beside t _ = 0

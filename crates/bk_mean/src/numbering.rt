@@ -21,7 +21,9 @@ pub(crate) struct Numbering {
 }
 
 impl Numbering {
-    pub(crate) fn new(alloc: Global, func: &Func) -> Result<Self, AllocError> {
+    pub(crate) fn new(alloc: Global, func: &Func) -> Result<Self, AllocError>
+        ensures { IfOk result (λ numbering. IsNumbering func.now numbering) }
+    {
         let ids = value_ids(alloc, &func.blocks)?;
         let values = first_places(alloc, &ids)?;
         let blocks = first_places(alloc, &block_ids(alloc, &func.blocks)?)?;
@@ -34,17 +36,23 @@ impl Numbering {
     }
 
     /// How many values there are.
-    pub(crate) fn count(&self) -> usize {
+    pub(crate) fn count(&self) -> usize
+        ensures { (f : FuncRecord) → IsNumbering f self.now → result ≡ room f }
+    {
         self.roots.len()
     }
 
     /// The place of the value with this number.
-    pub(crate) fn find(&self, id: u32) -> Option<usize> {
+    pub(crate) fn find(&self, id: u32) -> Option<usize>
+        ensures { (f : FuncRecord) → IsNumbering f self.now → result ≡ position (λ v. v.id == id) (values_of f) }
+    {
         self.values.get(&id).copied()
     }
 
     /// The place of the number of a value: that after all values where there is no such value.
-    pub(crate) fn place(&self, id: u32) -> usize {
+    pub(crate) fn place(&self, id: u32) -> usize
+        ensures { (f : FuncRecord) → IsNumbering f self.now → result ≡ place_in f id }
+    {
         match self.find(id) {
             Some(place) => place,
             None => self.count(),
@@ -52,7 +60,9 @@ impl Numbering {
     }
 
     /// The place of the block with this number.
-    pub(crate) fn block(&self, id: u32) -> Option<usize> {
+    pub(crate) fn block(&self, id: u32) -> Option<usize>
+        ensures { (f : FuncRecord) → IsNumbering f self.now → result ≡ position (λ b. b.id == id) f.blocks }
+    {
         self.blocks.get(&id).copied()
     }
 

@@ -10,7 +10,9 @@ use std::collections::BTreeMap;
 pub(crate) fn first_places(
     alloc: Global,
     numbers: &[u32],
-) -> Result<BTreeMap<u32, usize>, AllocError> {
+) -> Result<BTreeMap<u32, usize>, AllocError>
+    ensures { IfOk result (λ places. (n : ℕ) → place_at nat_cmp places n ≡ position (λ x. x == n) numbers.now) }
+{
     let mut places = BTreeMap::new(alloc);
     for (place, number) in numbers.iter().enumerate() {
         if places.get(number).is_none() {

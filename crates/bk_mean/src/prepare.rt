@@ -21,7 +21,9 @@ use smallvec::SmallVec;
 use std::alloc::{AllocError, Global};
 
 /// Makes a function ready to run.
-pub(crate) fn prepare(alloc: Global, symbols: &Symbols, func: &Func) -> Result<Ready, AllocError> {
+pub(crate) fn prepare(alloc: Global, symbols: &Symbols, func: &Func) -> Result<Ready, AllocError>
+    ensures { IfOk result (λ ready. (p : PackageRecord) → IsNaming p symbols.now → IsReady p func.now ready) }
+{
     let numbering = Numbering::new(alloc, func)?;
     let values = ready_values(alloc, symbols, &numbering, &func.blocks)?;
     let kept = kept_results(alloc, &numbering, &func.blocks)?;
@@ -38,7 +40,9 @@ fn ready_values(
     symbols: &Symbols,
     numbering: &Numbering,
     blocks: &[Block],
-) -> Result<Vec<ReadyValue>, AllocError> {
+) -> Result<Vec<ReadyValue>, AllocError>
+    ensures { IfOk result (λ values. (p : PackageRecord) (f : FuncRecord) → IsNaming p symbols.now → IsNumbering f numbering.now → AreReadyValues p f (flat_map (λ b. b.values) blocks.now) values.items) }
+{
     let mut list = Vec::with_capacity(alloc, numbering.count())?;
     for block in blocks {
         add_values(alloc, &mut list, symbols, numbering, &block.values)?;
@@ -52,7 +56,9 @@ fn add_values(
     symbols: &Symbols,
     numbering: &Numbering,
     values: &[Value],
-) -> Result<(), AllocError> {
+) -> Result<(), AllocError>
+    ensures { OnOk result ((p : PackageRecord) (f : FuncRecord) → IsNaming p symbols.now → IsNumbering f numbering.now → (before : List ValueRecord) → AreReadyValues p f before list.old.items → AreReadyValues p f (before ++ values.now) list.new.items) }
+{
     for value in values {
         list.push(ready_value(alloc, symbols, numbering, value)?)?;
     }
@@ -64,7 +70,9 @@ fn ready_value(
     symbols: &Symbols,
     numbering: &Numbering,
     value: &Value,
-) -> Result<ReadyValue, AllocError> {
+) -> Result<ReadyValue, AllocError>
+    ensures { IfOk result (λ ready. (p : PackageRecord) (f : FuncRecord) → IsNaming p symbols.now → IsNumbering f numbering.now → IsReadyValue p f value.now ready) }
+{
     Ok(ReadyValue {
         args: arg_places(alloc, numbering, value.args.as_slice())?,
         address: symbols.address(value.aux),
@@ -78,7 +86,9 @@ fn arg_places(
     alloc: Global,
     numbering: &Numbering,
     args: &[u32],
-) -> Result<SmallVec<usize, 4>, AllocError> {
+) -> Result<SmallVec<usize, 4>, AllocError>
+    ensures { IfOk result (λ places. (f : FuncRecord) → IsNumbering f numbering.now → places.items ≡ map (place_in f) args.now) }
+{
     let mut places = SmallVec::new(alloc);
     for arg in args {
         places.push(numbering.place(*arg))?;
@@ -90,7 +100,9 @@ fn ready_blocks(
     alloc: Global,
     numbering: &Numbering,
     func: &Func,
-) -> Result<Vec<ReadyBlock>, AllocError> {
+) -> Result<Vec<ReadyBlock>, AllocError>
+    ensures { IfOk result (λ blocks. IsNumbering func.now numbering.now → AreReadyBlocks func.now func.now.blocks (length func.now.blocks) blocks.items) }
+{
     let mut list = Vec::with_capacity(alloc, func.blocks.len())?;
     let mut first = 0usize;
     for block in &func.blocks {
@@ -109,7 +121,9 @@ fn ready_block(
     func: &Func,
     block: &Block,
     first: usize,
-) -> Result<ReadyBlock, AllocError> {
+) -> Result<ReadyBlock, AllocError>
+    ensures { IfOk result (λ ready. IsNumbering func.now numbering.now → IsReadyBlock func.now first block.now ready) }
+{
     let order = order(alloc, numbering, first, &block.values)?;
     let phis = phis(alloc, &block.values)?;
     let control = control(numbering, block.control);
@@ -125,7 +139,9 @@ fn ready_block(
     })
 }
 
-fn control(numbering: &Numbering, control: Option<u32>) -> usize {
+fn control(numbering: &Numbering, control: Option<u32>) -> usize
+    ensures { (f : FuncRecord) → IsNumbering f numbering.now → result ≡ control_place f control }
+{
     match control {
         Some(id) => numbering.place(id),
         None => numbering.count(),
@@ -209,7 +225,9 @@ pub(crate) fn without_memory(args: &[usize]) -> &[usize]
 }
 
 /// The edge from a block to its successor at the index.
-fn edge_at(numbering: &Numbering, func: &Func, block: &Block, index: usize) -> Edge {
+fn edge_at(numbering: &Numbering, func: &Func, block: &Block, index: usize) -> Edge
+    ensures { IsNumbering func.now numbering.now → IsReadyEdge func.now block.now index result }
+{
     let to = number_at(&block.succs, index);
     let rank = rank(&block.succs, index, to);
     let found = numbering.block(to);
@@ -221,7 +239,9 @@ fn edge_at(numbering: &Numbering, func: &Func, block: &Block, index: usize) -> E
 
 /// The place of an edge from a block among the predecessors of the block that it leads to, if that is
 /// there.
-fn edge_place(func: &Func, found: Option<usize>, from: u32, rank: usize) -> usize {
+fn edge_place(func: &Func, found: Option<usize>, from: u32, rank: usize) -> usize
+    ensures { (id : ℕ) → found ≡ position (λ b. b.id == id) func.now.blocks → result ≡ nth_in from rank (block_of func.now id) }
+{
     match found {
         Some(place) => match func.blocks.get(place) {
             Some(block) => nth(&block.preds, from, rank),
@@ -271,7 +291,9 @@ fn kept_results(
     alloc: Global,
     numbering: &Numbering,
     blocks: &[Block],
-) -> Result<Vec<Vec<(u64, usize)>>, AllocError> {
+) -> Result<Vec<Vec<(u64, usize)>>, AllocError>
+    ensures { IfOk result (λ kept. (f : FuncRecord) → IsNumbering f numbering.now → length kept.items ≡ room f) }
+{
     let count = numbering.count();
     let mut kept = none_kept(alloc, count)?;
     for block in blocks {
@@ -280,7 +302,9 @@ fn kept_results(
     Ok(kept)
 }
 
-fn none_kept(alloc: Global, count: usize) -> Result<Vec<Vec<(u64, usize)>>, AllocError> {
+fn none_kept(alloc: Global, count: usize) -> Result<Vec<Vec<(u64, usize)>>, AllocError>
+    ensures { IfOk result (λ kept. length kept.items ≡ count) }
+{
     let mut kept = Vec::with_capacity(alloc, count)?;
     for _ in 0..count {
         kept.push(Vec::new(alloc))?;

@@ -8,7 +8,7 @@ ghost use Rattle.bk_func.specs.Numbers.{Program, Env, loaded, number_by, address
 ghost use Rattle.bk_func.specs.Meaning.{World, Activation, Calls, trapped, fault_by, gives, with_window, moved, done_by, store_size as meant_size, stored_of as meant_stored};
 ghost use Rattle.bk_mean.specs.Machine.{arg_number};
 ghost use Rattle.bk_mean.specs.Seen.{seen_origin, seen_effect};
-ghost use Rattle.bk_mean.specs.Step.{Reads, Stands, Follows, IsSettled, IsActed, fault_of, with_words, seeing, after_run};
+ghost use Rattle.bk_mean.specs.Step.{Reads, Stands, Follows, IsSettled, IsActed, Sees, settled, fault_of, with_words, seeing, after_run, is_store as is_store_op, is_byte_store as is_byte_store_op, size_beside as meant_beside};
 
 use crate::fit::word_bits;
 use crate::memory::{DATA_BASE, copy_bytes, write_zeros};
@@ -60,20 +60,27 @@ pub(crate) fn step(
     match effect_of(value.op.family, value.ty) {
         Some(Effect::Call | Effect::CallWords) => Ok(After::Call),
         Some(effect) => act(effect, value, ready, given.target, numbers, window, words),
-        None => Ok(settle(value, ready, place, given, numbers, window)),
+        None => {
+            let origin = origin_of(value.op.family);
+            Ok(settle(origin, value, ready, place, given, numbers, window))
+        }
     }
 }
 
 /// Gives a value that is no memory value its number.
 fn settle(
+    origin: Origin,
     value: &Value,
     ready: &ReadyValue,
     place: usize,
     given: Given<'_>,
     numbers: &mut [u64],
     window: &[u8],
-) -> After {
-    match origin_of(value.op.family) {
+) -> After
+    ensures fault { (p : Program) (f : FuncRecord) (e : Env) (m : ℕ → ℕ) → Stands p f e given.entry.target given.entry.types.now given.entry.args.now → Reads numbers.old ready.now.args.items m value.now.args → IsSettled (seen_origin origin) given.entry.target value.now → fault_of result ≡ fault_by (seen_origin origin) given.entry.target m window.now value.now }
+    ensures number { (p : Program) (f : FuncRecord) (e : Env) (m : ℕ → ℕ) → Stands p f e given.entry.target given.entry.types.now given.entry.args.now → ready.now.address ≡ address_of p.pkg value.now.aux → Reads numbers.old ready.now.args.items m value.now.args → IsSettled (seen_origin origin) given.entry.target value.now → Sees f e window.now (seen_origin origin) value.now → fault_of result ≡ None → numbers.new ≡ settled (seen_origin origin) numbers.old place (number_by (seen_origin origin) p f e m value.now) }
+{
+    match origin {
         Origin::Phi | Origin::Result => After::On,
         Origin::Loaded => load(value, ready, place, given.target, numbers, window),
         Origin::Checked => check(ready, place, given.target, numbers),
@@ -92,7 +99,9 @@ fn number(
     ready: &ReadyValue,
     given: Given<'_>,
     numbers: &[u64],
-) -> u64 {
+) -> u64
+    ensures { (p : Program) (f : FuncRecord) (e : Env) (m : ℕ → ℕ) → Stands p f e given.entry.target given.entry.types.now given.entry.args.now → ready.now.address ≡ address_of p.pkg value.now.aux → Reads numbers.now ready.now.args.items m value.now.args → Follows (seen_origin origin) value.now → result ≡ number_by (seen_origin origin) p f e m value.now }
+{
     let places = ready.args.as_slice();
     match origin {
         Origin::Argument => at(given.args, place_of_arg(value.aux)),
@@ -145,7 +154,10 @@ fn load(
     target: Target,
     numbers: &mut [u64],
     window: &[u8],
-) -> After {
+) -> After
+    ensures fault { (m : ℕ → ℕ) → Reads numbers.old ready.now.args.items m value.now.args → IsSettled loaded target value.now → fault_of result ≡ fault_by loaded target m window.now value.now }
+    ensures number { (m : ℕ → ℕ) → Reads numbers.old ready.now.args.items m value.now.args → IsSettled loaded target value.now → fault_of result ≡ None → numbers.new ≡ slice_set numbers.old place (meant_number value.now.op.family value.now.ty value.now.op.a (read_at target value.now window.now (address_by target value.now m))) }
+{
     let address = address(target, value.int, arg(numbers, ready.args.as_slice(), 0));
     let size = load_size(target, value.ty, value.op).min(8) as usize;
     match load_in(DATA_BASE, window, size, address) {
@@ -166,7 +178,9 @@ fn act(
     numbers: &[u64],
     window: &mut Vec<u8>,
     words: &mut CallWords,
-) -> Result<After, AllocError> {
+) -> Result<After, AllocError>
+    ensures { IfOk result (λ after. (p : Program) (m : ℕ → ℕ) (calls : Calls) (a : Activation) (w : World) → p.target ≡ target → Reads numbers.now ready.now.args.items m value.now.args → IsActed (seen_effect effect) target value.now → done_by (Some (seen_effect effect)) calls p m value.now (with_words a words.old) (seeing w window.old.items) ≡ after_run after (with_words a words.new) (seeing w window.new.items)) }
+{
     let first = arg(numbers, ready.args.as_slice(), 0);
     let second = arg(numbers, ready.args.as_slice(), 1);
     match effect {
@@ -194,7 +208,9 @@ fn trap(int: i64) -> u8
     natural(int).min(255) as u8
 }
 
-fn store(value: &Value, target: Target, pointer: u64, number: u64, window: &mut Vec<u8>) -> After {
+fn store(value: &Value, target: Target, pointer: u64, number: u64, window: &mut Vec<u8>) -> After
+    ensures { (a : Activation) (w : World) → meant_size target value.now.aux value.now.op value.now.op.family ≤ 8 → (let at = (pointer + residue (word_width target) value.now.int) % 2 ^ word_width target in with_window (with_number window.old.items (meant_size target value.now.aux value.now.op value.now.op.family) at (meant_stored value.now.aux value.now.op.family number)) at a (seeing w window.old.items) ≡ after_run result a (seeing w window.new.items)) }
+{
     let address = address(target, value.int, pointer);
     let size = store_size(target, value.aux, value.op).min(8) as usize;
     let stored = stored_of(value.aux, value.op, number);
@@ -206,14 +222,42 @@ fn store(value: &Value, target: Target, pointer: u64, number: u64, window: &mut 
 }
 
 /// How many bytes a store writes.
-fn store_size(target: Target, aux: Aux, op: Op) -> u32 {
-    match op.family {
-        Family::Store => match aux {
-            Aux::Ty(ty) => size(ty, target),
-            _ => 0,
-        },
-        Family::Arm(ArmOp::StoreB) | Family::Rv(RvOp::StoreB) => 1,
-        _ => u32::from(op.a),
+fn store_size(target: Target, aux: Aux, op: Op) -> u32
+    ensures { result ≡ meant_size target aux op op.family }
+{
+    if is_store(op.family) {
+        return size_beside(target, aux);
+    }
+    if is_byte_store(op.family) {
+        return 1;
+    }
+    u32::from(op.a)
+}
+
+fn is_store(family: Family) -> bool
+    ensures { result ≡ is_store_op family }
+{
+    match family {
+        Family::Store => true,
+        _ => false,
+    }
+}
+
+fn is_byte_store(family: Family) -> bool
+    ensures { result ≡ is_byte_store_op family }
+{
+    match family {
+        Family::Arm(ArmOp::StoreB) | Family::Rv(RvOp::StoreB) => true,
+        _ => false,
+    }
+}
+
+fn size_beside(target: Target, aux: Aux) -> u32
+    ensures { result ≡ meant_beside target aux }
+{
+    match aux {
+        Aux::Ty(ty) => size(ty, target),
+        _ => 0,
     }
 }
 
@@ -246,7 +290,9 @@ fn zeros(value: &Value, target: Target, pointer: u64, window: &mut Vec<u8>) -> A
     }
 }
 
-fn copy(value: &Value, target: Target, to: u64, from: u64, window: &mut Vec<u8>) -> After {
+fn copy(value: &Value, target: Target, to: u64, from: u64, window: &mut Vec<u8>) -> After
+    ensures { (a : Activation) (w : World) → (let to = to % 2 ^ word_width target in let from = from % 2 ^ word_width target in (if meant_natural value.now.int == 0 then gives a (seeing w window.old.items) else moved (number_at window.old.items (meant_natural value.now.int) from) (meant_natural value.now.int) to from a (seeing w window.old.items)) ≡ after_run result a (seeing w window.new.items)) }
+{
     let count = natural(value.int);
     if count == 0 {
         return After::On;

@@ -40,7 +40,9 @@ pub(crate) struct Symbols {
 }
 
 impl Symbols {
-    pub(crate) fn new(alloc: Global, pkg: &Package) -> Result<Self, AllocError> {
+    pub(crate) fn new(alloc: Global, pkg: &Package) -> Result<Self, AllocError>
+        ensures { IfOk result (λ symbols. IsNaming pkg.now symbols) }
+    {
         let funcs = first_places(alloc, &func_names(alloc, &pkg.funcs)?)?;
         let vars = first_places(alloc, &var_names(alloc, &pkg.vars)?)?;
         let starts = starts(alloc, &pkg.vars)?;
@@ -52,7 +54,9 @@ impl Symbols {
     }
 
     /// The function that a call names.
-    pub(crate) fn callee(&self, aux: Aux) -> Callee {
+    pub(crate) fn callee(&self, aux: Aux) -> Callee
+        ensures { (p : PackageRecord) → IsNaming p self.now → result ≡ callee_of p (symbol_of aux) }
+    {
         let name = symbol(aux);
         match name {
             PANIC_DIVIDE => Callee::PanicDivide,
@@ -61,7 +65,9 @@ impl Symbols {
         }
     }
 
-    fn func(&self, name: u32) -> Callee {
+    fn func(&self, name: u32) -> Callee
+        ensures { (p : PackageRecord) → IsNaming p self.now → result ≡ callee_found (position (λ g. g.name == name) p.funcs) }
+    {
         match self.funcs.get(&name) {
             Some(place) => Callee::Func(*place),
             None => Callee::Missing,
@@ -69,19 +75,25 @@ impl Symbols {
     }
 
     /// The address of the variable that is named.
-    pub(crate) fn address(&self, aux: Aux) -> u64 {
+    pub(crate) fn address(&self, aux: Aux) -> u64
+        ensures { (p : PackageRecord) → IsNaming p self.now → result ≡ address_of p aux }
+    {
         match aux {
             Aux::Sym(name) => self.start(name),
             _ => 0,
         }
     }
 
-    fn start(&self, name: u32) -> u64 {
+    fn start(&self, name: u32) -> u64
+        ensures { (p : PackageRecord) → IsNaming p self.now → result ≡ place_of_var name p.vars data_base }
+    {
         at(&self.starts, self.var(name))
     }
 
     /// The place of the variable, or that after all.
-    fn var(&self, name: u32) -> usize {
+    fn var(&self, name: u32) -> usize
+        ensures { (p : PackageRecord) → IsNaming p self.now → result ≡ position_or_len (λ x. x.name == name) p.vars }
+    {
         match self.vars.get(&name) {
             Some(place) => *place,
             None => self.starts.len().saturating_sub(1),
