@@ -1,4 +1,5 @@
 pub mod Acts
+pub mod Entered
 pub mod Firsts
 pub mod Fits
 pub mod Inputs

@@ -1,6 +1,8 @@
 // The evaluation of one function of a package.
-ghost use Rattle.std.specs.Prelude.{◌≡◌, ◌↔◌, false, None, IsErrOf, slice_get};
-ghost use Rattle.bk_mean.specs.Eval.{function_named, is_name, fit_at};
+ghost use Rattle.std.specs.Prelude.{◌≡◌, ℕ, ◌<◌, ◌↔◌, nat_lt, if◌then◌else◌, false, [], length, None, Some, IfOk, IsErrOf, slice_get, slice_index};
+ghost use Rattle.bk_func.specs.Meaning.{meaning};
+ghost use Rattle.bk_mean.specs.Eval.{function_named, is_name, fit_at, program, EntersNone, end_of_none};
+ghost use Rattle.bk_mean.specs.Seen.{seen_outcome};
 
 use crate::machine::Machine;
 use crate::prepare::prepare;
@@ -31,6 +33,7 @@ pub fn eval(
 ) -> Result<(Outcome, Vec<u8>), EvalError>
     ensures no_function { IsErrOf result EvalError.NoFunction ↔ (function_named pkg.now name.now ≡ None) }
     ensures bad_args { IsErrOf result EvalError.BadArgs ↔ (fit_at pkg.now target (function_named pkg.now name.now) args.now ≡ false) }
+    ensures none_entered { IfOk result (λ r. (i : ℕ) → function_named pkg.now name.now ≡ Some i → EntersNone bound stack (slice_index frames.now i) → (seen_outcome r.0, r.1.items) ≡ meaning (program pkg.now target frames.now) i args.now window.now stack bound) }
 {
     let Some(place) = place_of(pkg, name) else {
         return Err(EvalError::NoFunction);
@@ -75,7 +78,9 @@ fn run(
     window: &[u8],
     stack: u64,
     bound: u64,
-) -> Result<(Outcome, Vec<u8>), AllocError> {
+) -> Result<(Outcome, Vec<u8>), AllocError>
+    ensures { IfOk result (λ r. place < length pkg.now.funcs → EntersNone bound stack (slice_index frames.now place) → (seen_outcome r.0 ≡ end_of_none stack (slice_index frames.now place)) × (r.1.items ≡ window.now)) }
+{
     let symbols = Symbols::new(alloc, pkg)?;
     let mut readies = none_ready(alloc, pkg.funcs.len())?;
     let mut machine = Machine {
@@ -109,7 +114,7 @@ fn none_ready(alloc: Global, count: usize) -> Result<Vec<Option<Ready>>, AllocEr
     Ok(readies)
 }
 
-/// Enters one block after the other, as many as the bound allows.
+/// Begins with a function, and enters one block after the other, as many as the bound allows.
 #[allow(clippy::too_many_arguments)]
 fn enter_all(
     alloc: Global,
@@ -121,12 +126,32 @@ fn enter_all(
     symbols: &Symbols,
     readies: &mut Vec<Option<Ready>>,
     machine: &mut Machine,
-) -> Result<Outcome, AllocError> {
+) -> Result<Outcome, AllocError>
+    ensures { IfOk result (λ o. machine.old.calls.items ≡ [] → place < length pkg.now.funcs → EntersNone bound stack (slice_index frames.now place) → (seen_outcome o ≡ end_of_none stack (slice_index frames.now place)) × (machine.new.window.items ≡ machine.old.window.items)) }
+{
     if let Some(trap) = begin(
         alloc, pkg, frames, place, stack, symbols, readies, machine, false,
     )? {
         return Ok(Outcome::Trapped(trap));
     }
+    if bound == 0 {
+        return Ok(Outcome::Going);
+    }
+    enter_blocks(alloc, pkg, frames, stack, bound, symbols, readies, machine)
+}
+
+/// Enters one block after the other.
+#[allow(clippy::too_many_arguments)]
+fn enter_blocks(
+    alloc: Global,
+    pkg: &Package,
+    frames: &[u32],
+    stack: u64,
+    bound: u64,
+    symbols: &Symbols,
+    readies: &mut Vec<Option<Ready>>,
+    machine: &mut Machine,
+) -> Result<Outcome, AllocError> {
     for _ in 0..bound {
         match machine.advance(pkg, readies)? {
             Next::Enter => {}
@@ -181,14 +206,19 @@ fn begin(
     readies: &mut Vec<Option<Ready>>,
     machine: &mut Machine,
     on_words: bool,
-) -> Result<Option<u8>, AllocError> {
+) -> Result<Option<u8>, AllocError>
+    ensures window { machine.new.window.items ≡ machine.old.window.items }
+    ensures first { IfOk result (λ trap. machine.old.calls.items ≡ [] → place < length pkg.now.funcs → trap ≡ (if nat_lt stack (slice_index frames.now place) then Some 5 else None)) }
+{
     let Some(func) = pkg.funcs.get(place) else {
         return Ok(Some(6));
     };
-    let frame = u64::from(frames.get(place).copied().unwrap_or(0));
-    let Some(left) = machine.stack(stack).checked_sub(frame) else {
+    let have = machine.stack(stack);
+    let frame = frame_of(frames, place);
+    if have < frame {
         return Ok(Some(5));
-    };
+    }
+    let left = have - frame;
     make_ready(alloc, symbols, func, readies, place)?;
     if on_words {
         machine.take_words(&func.sig)?;
@@ -197,6 +227,16 @@ fn begin(
         machine.begin(place, &func.sig, ready, left)?;
     }
     Ok(None)
+}
+
+/// The bytes of the frame of the function at a place.
+fn frame_of(frames: &[u32], place: usize) -> u64
+    ensures { result ≡ slice_index frames.now place }
+{
+    match frames.get(place) {
+        Some(frame) => u64::from(*frame),
+        None => 0,
+    }
 }
 
 /// Makes the function at a place ready, once.

@@ -1,4 +1,6 @@
 // Runs: calls that are under way, one upon the other.
+ghost use Rattle.std.specs.Prelude.{◌≡◌, []};
+
 use crate::fit::push_fitted;
 use crate::ready::{Ready, ReadyValue};
 use crate::step::CallWords;
@@ -40,7 +42,9 @@ pub(crate) struct Machine {
 
 impl Machine {
     /// The stack that is left to a call, and at the start the given one.
-    pub(crate) fn stack(&self, start: u64) -> u64 {
+    pub(crate) fn stack(&self, start: u64) -> u64
+        ensures { self.now.calls.items ≡ [] → result ≡ start }
+    {
         match self.calls.last() {
             Some(call) => call.stack,
             None => start,
@@ -48,7 +52,9 @@ impl Machine {
     }
 
     /// Takes the words that were written for a call at hand, as the numbers that they spell.
-    pub(crate) fn take_words(&mut self, sig: &Sig) -> Result<(), AllocError> {
+    pub(crate) fn take_words(&mut self, sig: &Sig) -> Result<(), AllocError>
+        ensures { self.new.window ≡ self.old.window }
+    {
         self.hand.clear();
         if let Some(call) = self.calls.last_mut() {
             spell(&mut self.hand, self.target, &sig.args, &call.words.out, 0)?;
@@ -64,7 +70,9 @@ impl Machine {
         sig: &Sig,
         ready: &Ready,
         stack: u64,
-    ) -> Result<(), AllocError> {
+    ) -> Result<(), AllocError>
+        ensures { self.new.window ≡ self.old.window }
+    {
         let base = self.numbers.len();
         let end = base.wrapping_add(ready.values.len()).wrapping_add(1);
         self.numbers.resize(end, 0)?;

@@ -40,6 +40,18 @@ fn values(alloc: Global, lines: &[Line<'_>]) -> Result<Vec<Value>, AllocError> {
     Ok(values)
 }
 
+fn block(alloc: Global, part: &Part<'_>) -> Result<Block, AllocError> {
+    Ok(Block {
+        id: part.0,
+        kind: part.1,
+        control: part.2,
+        preds: part.3.to_vec(alloc)?,
+        succs: part.4.to_vec(alloc)?,
+        likely: Likely::No,
+        values: values(alloc, part.5)?,
+    })
+}
+
 /// A function with the name of a number, and blocks.
 fn func(
     alloc: Global,
@@ -50,15 +62,7 @@ fn func(
 ) -> Result<Func, AllocError> {
     let mut blocks = Vec::new(alloc);
     for part in parts {
-        blocks.push(Block {
-            id: part.0,
-            kind: part.1,
-            control: part.2,
-            preds: part.3.to_vec(alloc)?,
-            succs: part.4.to_vec(alloc)?,
-            likely: Likely::No,
-            values: values(alloc, part.5)?,
-        })?;
+        blocks.push(block(alloc, part)?)?;
     }
     Ok(Func {
         name,
@@ -129,14 +133,17 @@ fn swap(alloc: Global) -> Result<Package, AllocError> {
     ];
     let body: [Line<'_>; 1] = [(10, "Sub64", Ty::Int, &[7, 6], 0, NONE)];
     let last: [Line<'_>; 1] = [(12, "MakeResult", Ty::Tuple, &[8, 9, 1], 0, NONE)];
-    let parts: [Part<'_>; 4] = [
-        (1, Kind::Plain, None, &[], &[2], &entry),
-        (2, Kind::If, Some(11), &[1, 3], &[3, 4], &head),
-        (3, Kind::Plain, None, &[2], &[2], &body),
-        (4, Kind::Ret, Some(12), &[2], &[], &last),
-    ];
     let types = [Ty::Int, Ty::Int, Ty::Int];
-    alone(alloc, func(alloc, 0, &types, &[Ty::Int, Ty::Int], &parts)?)
+    let mut swap = func(alloc, 0, &types, &[Ty::Int, Ty::Int], &[])?;
+    let plain = Kind::Plain;
+    swap.blocks
+        .push(block(alloc, &(1, plain, None, &[], &[2], &entry))?)?;
+    swap.blocks.push(block(alloc, &(2, Kind::If, Some(11), &[1, 3], &[3, 4], &head))?)?;
+    swap.blocks
+        .push(block(alloc, &(3, plain, None, &[2], &[2], &body))?)?;
+    swap.blocks
+        .push(block(alloc, &(4, Kind::Ret, Some(12), &[2], &[], &last))?)?;
+    alone(alloc, swap)
 }
 
 #[test]
