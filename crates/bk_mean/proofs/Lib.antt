@@ -1,0 +1,11 @@
+pub mod Acts
+pub mod Entered
+pub mod Firsts
+pub mod Fits
+pub mod Inputs
+pub mod Many
+pub mod Prepared
+pub mod Settled
+pub mod Sizes
+pub mod Spelt
+pub mod Windows
