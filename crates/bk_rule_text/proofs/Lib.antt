@@ -1,0 +1,5 @@
+mod Front
+mod Measures
+mod Numbers
+mod Ops
+mod Runs
