@@ -119,7 +119,7 @@ unfoldable pub one_text : Fun → List ℕ → List ℕ
 one_text f x =
     if is_prefix f then symbol f ++ (codes " " ++ x)
     else if is_uses f then x ++ codes ".Uses"
-    else function_text f (x ∷ [])
+    else symbol f ++ (codes "(" ++ (x ++ codes ")"))
 
 unfoldable pub two_text : Fun → List ℕ → List ℕ → List ℕ
 two_text f x y = if is_infix f then x ++ (codes " " ++ (symbol f ++ (codes " " ++ y))) else function_text f (x ∷ y ∷ [])

@@ -1,6 +1,6 @@
 //! Expressions and conditions.
-ghost use Rattle.std.specs.Prelude.{◌≡◌, ◌++◌, [], ◌∷◌, map, codes, string_bytes, OnOk};
-ghost use Rattle.bk_rule_text.specs.Layout.{is_prefix, is_infix, is_operation, expr_text, inner_text, one_text, two_text, function_text, separator, joined, conditions_text};
+ghost use Rattle.std.specs.Prelude.{◌≡◌, ◌++◌, map, codes, string_bytes, OnOk};
+ghost use Rattle.bk_rule_text.specs.Layout.{is_prefix, is_infix, is_operation, expr_text, inner_text, call_text, one_text, function_text, separator, joined, conditions_text};
 
 use crate::printer::word::symbol;
 use bk_rule::{Expr, Fun};
@@ -28,7 +28,10 @@ fn is_infix(fun: Fun) -> bool
 }
 
 /// Whether the expression is a use of an operator.
-fn is_operation(expr: &Expr) -> bool {
+#[tactic(auto, unfolding(crate::specs::Layout::operates))]
+fn is_operation(expr: &Expr) -> bool
+    ensures { result ≡ is_operation expr.now }
+{
     match expr {
         Expr::Number(_) | Expr::Var(_) => false,
         Expr::Call { fun, args } => match args.len() {
@@ -41,7 +44,10 @@ fn is_operation(expr: &Expr) -> bool {
 
 /// Writes an expression.
 #[cycle(expr)]
-pub fn write_expr(out: &mut String, expr: &Expr) -> Result<(), AllocError> {
+#[tactic(auto, unfolding(crate::specs::Layout::variable))]
+pub fn write_expr(out: &mut String, expr: &Expr) -> Result<(), AllocError>
+    ensures { OnOk result (string_bytes out.new ≡ string_bytes out.old ++ expr_text expr.now) }
+{
     match expr {
         Expr::Number(number) => write!(out, "{number}"),
         Expr::Var(variable) => write!(out, "x{variable}"),
@@ -51,7 +57,9 @@ pub fn write_expr(out: &mut String, expr: &Expr) -> Result<(), AllocError> {
 
 /// Writes an expression inside another one.
 #[cycle(expr)]
-fn write_inner(out: &mut String, expr: &Expr) -> Result<(), AllocError> {
+fn write_inner(out: &mut String, expr: &Expr) -> Result<(), AllocError>
+    ensures { OnOk result (string_bytes out.new ≡ string_bytes out.old ++ inner_text expr.now) }
+{
     if !is_operation(expr) {
         return write_expr(out, expr);
     }
@@ -62,10 +70,15 @@ fn write_inner(out: &mut String, expr: &Expr) -> Result<(), AllocError> {
 
 /// Writes a call.
 #[cycle(expr)]
-fn write_call(out: &mut String, fun: Fun, args: &[Expr]) -> Result<(), AllocError> {
+fn write_call(out: &mut String, fun: Fun, args: &[Expr]) -> Result<(), AllocError>
+    ensures { OnOk result (string_bytes out.new ≡ string_bytes out.old ++ call_text fun (map inner_text args.now)) }
+{
     match args {
         [x] => write_one(out, fun, x),
-        [x, y] if is_infix(fun) => {
+        [x, y] => {
+            if !is_infix(fun) {
+                return write_function(out, fun, args);
+            }
             write_inner(out, x)?;
             write_spaced(out, symbol(fun))?;
             write_inner(out, y)
@@ -76,7 +89,10 @@ fn write_call(out: &mut String, fun: Fun, args: &[Expr]) -> Result<(), AllocErro
 
 /// Writes a call of one operand.
 #[cycle(expr)]
-fn write_one(out: &mut String, fun: Fun, x: &Expr) -> Result<(), AllocError> {
+#[tactic(auto, unfolding(crate::specs::Layout::one_text, crate::specs::Layout::is_uses))]
+fn write_one(out: &mut String, fun: Fun, x: &Expr) -> Result<(), AllocError>
+    ensures { OnOk result (string_bytes out.new ≡ string_bytes out.old ++ one_text fun (inner_text x.now)) }
+{
     if is_prefix(fun) {
         write_prefix(out, symbol(fun))?;
         write_inner(out, x)
@@ -101,7 +117,10 @@ fn separator(place: usize) -> &'static str
 
 /// Writes operands.
 #[cycle(expr)]
-fn write_joined(out: &mut String, args: &[Expr]) -> Result<(), AllocError> {
+#[tactic(auto, unfolding(crate::specs::Layout::joined))]
+fn write_joined(out: &mut String, args: &[Expr]) -> Result<(), AllocError>
+    ensures { OnOk result (string_bytes out.new ≡ string_bytes out.old ++ joined 0 (map inner_text args.now)) }
+{
     for (place, arg) in args.iter().enumerate() {
         out.push_str(separator(place))?;
         write_inner(out, arg)?;
@@ -111,7 +130,10 @@ fn write_joined(out: &mut String, args: &[Expr]) -> Result<(), AllocError> {
 
 /// Writes a call of a function.
 #[cycle(expr)]
-fn write_function(out: &mut String, fun: Fun, args: &[Expr]) -> Result<(), AllocError> {
+#[tactic(auto, unfolding(crate::specs::Layout::function_text))]
+fn write_function(out: &mut String, fun: Fun, args: &[Expr]) -> Result<(), AllocError>
+    ensures { OnOk result (string_bytes out.new ≡ string_bytes out.old ++ function_text fun (map inner_text args.now)) }
+{
     out.push_str(symbol(fun))?;
     out.push_str("(")?;
     write_joined(out, args)?;
@@ -131,7 +153,10 @@ fn write_spaced(out: &mut String, text: &str) -> Result<(), AllocError>
 }
 
 /// Writes conditions, each behind ` && `.
-pub fn write_conditions(out: &mut String, conds: &[Expr]) -> Result<(), AllocError> {
+#[tactic(auto, unfolding(crate::specs::Layout::conditions_text))]
+pub fn write_conditions(out: &mut String, conds: &[Expr]) -> Result<(), AllocError>
+    ensures { OnOk result (string_bytes out.new ≡ string_bytes out.old ++ conditions_text conds.now) }
+{
     for cond in conds {
         out.push_str(" && ")?;
         write_expr(out, cond)?;

@@ -13,7 +13,10 @@ use std::alloc::Global;
 pub use word::{symbol, type_name};
 
 /// Writes a rule and the end of its line.
-fn write_rule(alloc: Global, out: &mut String, rule: &Rule) -> Result<(), Memory> {
+#[tactic(auto, unfolding(crate::specs::Layout::rule_text))]
+fn write_rule(alloc: Global, out: &mut String, rule: &Rule) -> Result<(), Memory>
+    ensures { OnOk result (string_bytes out.new ≡ string_bytes out.old ++ rule_text rule.now) }
+{
     write_pattern(alloc, out, &rule.left)?;
     write_conditions(out, rule.conds.as_slice())?;
     out.push_str(" => ")?;
@@ -22,7 +25,10 @@ fn write_rule(alloc: Global, out: &mut String, rule: &Rule) -> Result<(), Memory
     Ok(())
 }
 
-fn write_rules(alloc: Global, out: &mut String, rules: &[Rule]) -> Result<(), Memory> {
+#[tactic(auto, unfolding(crate::specs::Layout::rules_text))]
+fn write_rules(alloc: Global, out: &mut String, rules: &[Rule]) -> Result<(), Memory>
+    ensures { OnOk result (string_bytes out.new ≡ string_bytes out.old ++ rules_text rules.now) }
+{
     for rule in rules {
         write_rule(alloc, out, rule)?;
     }
@@ -33,7 +39,9 @@ fn write_rules(alloc: Global, out: &mut String, rules: &[Rule]) -> Result<(), Me
 ///
 /// A variable is `x` and its number, and one that names a node stands before its `:`. A use of an operator inside
 /// another expression stands in round brackets. Rules that `read_rules` gives are read back from what is written.
-pub fn print_rules(alloc: Global, rules: &[Rule]) -> Result<Vec<u8>, Memory> {
+pub fn print_rules(alloc: Global, rules: &[Rule]) -> Result<Vec<u8>, Memory>
+    ensures { IfOk result (λ text. text.items ≡ rules_text rules.now) }
+{
     let mut out = String::new(alloc);
     write_rules(alloc, &mut out, rules)?;
     Ok(out.into_bytes())

@@ -84,7 +84,10 @@ fn write_head(
 
 /// Writes a left tree.
 #[cycle(pattern)]
-pub fn write_pattern(alloc: Global, out: &mut String, pattern: &Pattern) -> Result<(), Memory> {
+#[tactic(auto, unfolding(crate::specs::Layout::variable))]
+pub fn write_pattern(alloc: Global, out: &mut String, pattern: &Pattern) -> Result<(), Memory>
+    ensures { OnOk result (string_bytes out.new ≡ string_bytes out.old ++ pattern_text pattern.now) }
+{
     match pattern {
         Pattern::Any => Ok(out.push_str("_")?),
         Pattern::Var(variable) => Ok(write!(out, "x{variable}")?),
@@ -105,7 +108,10 @@ pub fn write_pattern(alloc: Global, out: &mut String, pattern: &Pattern) -> Resu
 
 /// Writes the arguments of a node, and the bracket that closes it.
 #[cycle(pattern)]
-fn write_patterns(alloc: Global, out: &mut String, patterns: &[Pattern]) -> Result<(), Memory> {
+#[tactic(auto, unfolding(crate::specs::Layout::patterns_text))]
+fn write_patterns(alloc: Global, out: &mut String, patterns: &[Pattern]) -> Result<(), Memory>
+    ensures { OnOk result (string_bytes out.new ≡ string_bytes out.old ++ (patterns_text patterns.now ++ codes ")")) }
+{
     for pattern in patterns {
         out.push_str(" ")?;
         write_pattern(alloc, out, pattern)?;
@@ -130,7 +136,9 @@ fn write_type(out: &mut String, ty: Option<TyPart>) -> Result<(), AllocError>
 }
 
 /// Writes the AuxInt of a right tree's node, where there is one.
-fn write_int(out: &mut String, int: &Option<Expr>) -> Result<(), AllocError> {
+fn write_int(out: &mut String, int: &Option<Expr>) -> Result<(), AllocError>
+    ensures { OnOk result (string_bytes out.new ≡ string_bytes out.old ++ int_text int.now) }
+{
     match int {
         Some(expr) => {
             out.push_str(" [")?;
@@ -142,6 +150,7 @@ fn write_int(out: &mut String, int: &Option<Expr>) -> Result<(), AllocError> {
 }
 
 /// Writes a right tree's node up to its arguments.
+#[tactic(auto, unfolding(crate::specs::Layout::made_text))]
 fn write_made(
     alloc: Global,
     out: &mut String,
@@ -149,7 +158,9 @@ fn write_made(
     ty: Option<TyPart>,
     int: &Option<Expr>,
     aux: Option<u32>,
-) -> Result<(), Memory> {
+) -> Result<(), Memory>
+    ensures { OnOk result (string_bytes out.new ≡ string_bytes out.old ++ made_text op ty int.now aux) }
+{
     write_op(alloc, out, op)?;
     write_type(out, ty)?;
     write_int(out, int)?;
@@ -159,7 +170,10 @@ fn write_made(
 
 /// Writes a right tree.
 #[cycle(build)]
-pub fn write_build(alloc: Global, out: &mut String, build: &Build) -> Result<(), Memory> {
+#[tactic(auto, unfolding(crate::specs::Layout::variable))]
+pub fn write_build(alloc: Global, out: &mut String, build: &Build) -> Result<(), Memory>
+    ensures { OnOk result (string_bytes out.new ≡ string_bytes out.old ++ build_text build.now) }
+{
     match build {
         Build::Var(variable) => Ok(write!(out, "x{variable}")?),
         Build::Node {
@@ -177,7 +191,10 @@ pub fn write_build(alloc: Global, out: &mut String, build: &Build) -> Result<(),
 
 /// Writes the arguments of a node, and the bracket that closes it.
 #[cycle(build)]
-fn write_builds(alloc: Global, out: &mut String, builds: &[Build]) -> Result<(), Memory> {
+#[tactic(auto, unfolding(crate::specs::Layout::builds_text))]
+fn write_builds(alloc: Global, out: &mut String, builds: &[Build]) -> Result<(), Memory>
+    ensures { OnOk result (string_bytes out.new ≡ string_bytes out.old ++ (builds_text builds.now ++ codes ")")) }
+{
     for build in builds {
         out.push_str(" ")?;
         write_build(alloc, out, build)?;
