@@ -1,0 +1,13 @@
+pub mod Builds
+pub mod Exprs
+pub mod Front
+pub mod Groups
+pub mod Layout
+pub mod Names
+pub mod Numbers
+pub mod Patterns
+pub mod Rules
+pub mod Stands
+pub mod Texts
+pub mod Views
+pub mod Words
