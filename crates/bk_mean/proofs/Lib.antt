@@ -1,3 +1,4 @@
+pub mod Along
 pub mod Dominance
 pub mod Formed
 pub mod Longest
@@ -5,3 +6,4 @@ pub mod Named
 pub mod Ranks
 pub mod Roles
 pub mod States
+pub mod Steady
