@@ -7,3 +7,4 @@ pub mod Ranks
 pub mod Roles
 pub mod States
 pub mod Steady
+pub mod Edges
