@@ -8,3 +8,4 @@ pub mod Roles
 pub mod States
 pub mod Steady
 pub mod Edges
+pub mod Typed

@@ -81,7 +81,7 @@ not_phi v h = go (is_phi (origin_of v.op.family)) refl
 
 -- copies of memory
 
-only_mem : (ty : Ty) → is_mem ty ≡ true → ty ≡ Mem
+pub only_mem : (ty : Ty) → is_mem ty ≡ true → ty ≡ Mem
 only_mem Mem e = refl
 only_mem _ e = absurd cc
 
@@ -114,7 +114,7 @@ known : (o : Op) → is_op o.family o.a o.b ≡ true → info_of o ≡ (row o.fa
 unfolding info_of
 known o e = rw e refl
 
-info_at : (o : Op) (g : Family) → is_op o.family o.a o.b ≡ true → o.family ≡ g → info_of o ≡ (row g o.a o.b).info
+pub info_at : (o : Op) (g : Family) → is_op o.family o.a o.b ≡ true → o.family ≡ g → info_of o ≡ (row g o.a o.b).info
 info_at o g e h = known o e ∙ ap (λ (x : Family). (row x o.a o.b).info) h
 
 -- the op takes this many arguments, and memory or not
