@@ -2,10 +2,11 @@
 use Rattle.bk_func.specs.Records.{ValueRecord, BlockRecord, FuncRecord}
 use Rattle.bk_func.specs.declared.form.FormKind.TheVariants.{Missing, Arity, Ty, Use, Memory, Order}
 use Rattle.bk_func.specs.Form.{Keeps, IsFormed}
-use Rattle.bk_func.specs.Form.Text.{HasValue}
-use Rattle.bk_func.specs.Form.States.{KeepsMemory}
+use Rattle.bk_func.specs.Form.Text.{HasBlock, HasValue}
+use Rattle.bk_func.specs.Form.States.{KeepsStates, KeepsMemory}
 use Rattle.bk_func.specs.Form.Before.{Precedes}
 use Rattle.bk_func.specs.Form.Signatures.{Setting}
+use Rattle.bk_func.specs.Form.Shapes.{HasTypes}
 use Rattle.bk_mean.proofs.Named.{IsNamed, is_named}
 use Rattle.bk_mean.proofs.Roles.{HasRow}
 
@@ -17,6 +18,8 @@ pub record Sound (s : Setting) (f : FuncRecord) : Type 0 where
   pub uses : Keeps s f Use
   pub order : (b : BlockRecord) (v : ValueRecord) → HasValue f b v → ¬ Precedes f b v v
   pub memory : (b : BlockRecord) (v : ValueRecord) → HasValue f b v → KeepsMemory f b v
+  pub types : (b : BlockRecord) (v : ValueRecord) → HasValue f b v → HasTypes s f v
+  pub states : (b : BlockRecord) → HasBlock f b → KeepsStates f b
 
 pub sound : (s : Setting) (f : FuncRecord) → IsFormed s f → Sound s f
 sound s f h = record {
@@ -25,4 +28,6 @@ sound s f h = record {
   uses = h.kinds Use;
   order = λ b v i. (h.kinds Order b i.0).value v i.1;
   memory = λ b v i. (h.kinds Memory b i.0).value v i.1;
+  types = λ b v i. (h.kinds Ty b i.0).value v i.1;
+  states = λ b i. (h.kinds Memory b i).block;
 }

@@ -9,3 +9,4 @@ pub mod States
 pub mod Steady
 pub mod Edges
 pub mod Typed
+pub mod Chains

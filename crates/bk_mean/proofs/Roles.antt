@@ -222,6 +222,15 @@ copy_args s f b v h e = let t = copy_takes v.op h.op e in (count_of s f b v 1 fa
 pub same_copies : (v : ValueRecord) → origin_of v.op.family ≡ same → v.op.family ≡ op.Copy
 same_copies v e = copies v.op.family (ap is_same e)
 
+-- the first state of all takes nothing, and a phi names no memory
+pub init_args : (s : Setting) (f : FuncRecord) (b : BlockRecord) (v : ValueRecord) → HasRow s f b v → v.op.family ≡ op.InitMem → length v.args ≡ 0
+unfolding row entry
+init_args s f b v h e = count_of s f b v 0 true h.arity (ap is_free e) (takes v.op op.InitMem 0 true h.op e refl refl)
+
+pub phi_no_memory : (s : Setting) (f : FuncRecord) (b : BlockRecord) (v : ValueRecord) → HasRow s f b v → v.op.family ≡ op.Phi → (info_of v.op).memory ≡ false
+unfolding row entry
+phi_no_memory s f b v h e = ap (λ (x : OpInfo). x.memory) (info_at v.op op.Phi h.op e)
+
 -- the first argument of a value that takes some
 pub first_argument : (v : ValueRecord) (n : ℕ) → length v.args ≡ suc n → slice_get v.args 0 ≡ Some (slice_index v.args 0)
 first_argument v n e = first_in v.args n e

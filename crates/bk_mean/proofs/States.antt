@@ -13,7 +13,7 @@ use Rattle.bk_func.specs.Form.Before.{Needs, takes}
 use Rattle.bk_func.specs.Form.Signatures.{Setting}
 use Rattle.bk_func.proofs.Faults.{In}
 use Rattle.bk_mean.proofs.Named.{IsNamed, to_contains, got_in, found_value}
-use Rattle.bk_mean.proofs.Dominance.{Dominates, dominates_onward, one_dominates, defined_from, defined_here, home, arguments_defined}
+use Rattle.bk_mean.proofs.Dominance.{Dominates, dominates_itself, dominates_onward, one_dominates, defined_from, defined_here, home, arguments_defined}
 use Rattle.bk_mean.proofs.Roles.{is_memory_copy-true, is_memory_copy-false, memory_copy, result_args, copy_args, result_families, first_argument}
 use Rattle.bk_mean.proofs.Formed.{Sound}
 use Rattle.bk_mean.proofs.Ranks.{IsLive, rank, rank_below_room, argument_falls, needs_onward}
@@ -187,3 +187,16 @@ needs_state s f h c rc u iu b rb over _ _ d (through_copy a v n m i y g t) e =
         | inr z ↦ needs_onward c v r.0 u taken z
       ]),
     )
+
+-- a value that names a state of its own block needs it
+pub needs_named : (s : Setting) (f : FuncRecord) → Sound s f → (c : BlockRecord) → IsReached f c → (v u : ValueRecord) → HasValue f c v → HasValue f c u → ¬ IsPhi v → (m : ℕ) → Names f v m → u.id ≡ m →
+    Needs c v u
+needs_named s f h c r v u i iu p m (k, n, at, got, stands) e =
+    let j = got_in v.args k n got in
+    let d = arguments_defined s f h.named h.uses c c v i p (defined_here f c v.id (v, i.1, refl)) n j in
+    let w = needs_state s f h c r u iu c r (dominates_itself f c) n m d stands e in
+    let first : Needs c v w.0 = takes w.0 v (w.1.1, i.1, p, to_contains w.0.id v.args (let P : ℕ → Type 0 = λ x. In x v.args in subst P (sym w.2) j)) in
+    elim w.3 as (λ _. Needs c v u) [
+      | inl y ↦ (let P : ValueRecord → Type 0 = λ x. Needs c v x in subst P y first)
+      | inr y ↦ needs_onward c v w.0 u first y
+    ]

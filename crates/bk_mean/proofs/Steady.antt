@@ -18,7 +18,7 @@ use Rattle.bk_mean.proofs.Dominance.{Dominates, one_dominates, defined_from, def
 use Rattle.bk_mean.proofs.Roles.{no_phi, load_args, result_args, result_families, first_argument}
 use Rattle.bk_mean.proofs.Formed.{Sound}
 use Rattle.bk_mean.proofs.Ranks.{rank, rank_below_room, argument_falls, input_taken, live_there, needs_onward}
-use Rattle.bk_mean.proofs.States.{state_named, state_defined, needs_state}
+use Rattle.bk_mean.proofs.States.{state_named, state_defined, needs_named}
 
 -- environments that differ at most in the numbers of some phis, and in what calls gave and in windows at other numbers
 pub record Agree (e d : Env) (P Q : ℕ → Type 0) : Type 0 where
@@ -146,26 +146,16 @@ same_window s f h c P Q e d z g n l q o = go (load_state s f h q.block q.value q
     go : (m : ℕ) × Names f q.value m × IsStateIn f q.block m → e.windows (unwrap_or (state_of f q.value) 0) ≡ d.windows (unwrap_or (state_of f q.value) 0)
     go (m, names, within) =
         rw (state_named s f h q.block q.value q.stands q.reached free (λ p. let e = ap origin_of p in absurd cc) m names)
-        (z.windows m (not_among f c P Q g n l q.value q.named m (needed names)))
+        (z.windows m (not_among f c P Q g n l q.value q.named m needed))
       where
         over : (u : ValueRecord) → HasValue f c u → u.id ≡ m → q.block ≡ c
         over u i k = here s f h c q.block g.reached q.dominates u i (let R : ℕ → Type 0 = λ y. IsDefinedAt f q.block y in subst R (sym k) (state_defined f q.block m within))
 
-        needed : Names f q.value m → (u : ValueRecord) → HasValue f c u → u.id ≡ m → Contains c.values q.value × Needs c q.value u
-        needed (k, x, at, got, stands) u i t =
-            let j = got_in q.value.args k x got in
-            let R : BlockRecord → Type 0 = λ y. Contains y.values q.value in
-            let own = subst R (over u i t) q.stands.1 in
-            let w = needs_state s f h c g.reached u i q.block q.reached q.dominates x m
-            (arguments_defined s f h.named h.uses q.block q.block q.value q.stands free (defined_here f q.block q.value.id (q.value, q.stands.1, refl)) x j) stands t in
-            let S : ℕ → Type 0 = λ y. In y q.value.args in
-            let first = needs_argument c q.value w.0 own w.1.1 (ap is_phi o) (subst S (sym w.2) j) in (
-              own,
-              elim w.3 as (λ _. Needs c q.value u) [
-                | inl y ↦ (let T : ValueRecord → Type 0 = λ v. Needs c q.value v in subst T y first)
-                | inr y ↦ needs_onward c q.value w.0 u first y
-              ],
-            )
+        needed : (u : ValueRecord) → HasValue f c u → u.id ≡ m → Contains c.values q.value × Needs c q.value u
+        needed u i t =
+            let P : BlockRecord → Type 0 = λ y. Contains y.values q.value in
+            let own = subst P (over u i t) q.stands.1 in
+            (own, needs_named s f h c g.reached q.value u (g.block, own) i free m names t)
 
 reads_same : (s : Setting) (f : FuncRecord) → Sound s f → (c : BlockRecord) (P Q : ℕ → Type 0) (e d : Env) → Agree e d P Q → Differs f c P Q → (n : ℕ) → Stays f c P Q n → ReadsAt f e d (value_of f n)
 reads_same s f h c P Q e d z g n l =

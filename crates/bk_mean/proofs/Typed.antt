@@ -56,7 +56,7 @@ acts (op.Arm _) ty a b e = absurd cc
 acts (op.Rv _) ty a b e = absurd cc
 acts _ ty a b e = absurd cc
 
-no_effect : (v : ValueRecord) (o : Family) → is_some (effect_of o v.ty) ≡ false → has_effect v ≡ true → ¬ (v.op.family ≡ o)
+pub no_effect : (v : ValueRecord) (o : Family) → is_some (effect_of o v.ty) ≡ false → has_effect v ≡ true → ¬ (v.op.family ≡ o)
 no_effect v o n h e = let d : is_some (effect_of v.op.family v.ty) ≡ is_some (effect_of o v.ty) = ap (λ (x : Family). is_some (effect_of x v.ty)) e in absurd cc
 
 -- a value with an effect is a state of its block
@@ -198,3 +198,8 @@ named_effect s f b v t i k n (inr (inr (inr c))) g z =
     go (inr (inr (inl e))) = is_called called (check_no_memory s f v t e)
     go (inr (inr (inr (inl e)))) = absurd (i.2 e)
     go (inr (inr (inr (inr e)))) = absurd (z e)
+
+-- the first state of all is memory
+pub init_memory : (s : Setting) (f : FuncRecord) (v : ValueRecord) → HasTypes s f v → v.op.family ≡ op.InitMem → v.ty ≡ Mem
+unfolding row entry
+init_memory s f v t e = result_at s f v op.InitMem t e
