@@ -80,7 +80,7 @@ put_same {A} g s x n h = go (n == s) refl
 pub entered_shown : (p : Program) (f : FuncRecord) (b : BlockRecord) (place : ℕ) (a : Activation) (w : World) → IsShown (entered p f b place a w) w
 entered_shown p f b place a w = put_there a.env.windows (first_state b a.memory) w.window
 
-find_in : (t : ValueRecord → Bool) (vs : List ValueRecord) (v : ValueRecord) → find t vs ≡ Some v → In v vs
+pub find_in : (t : ValueRecord → Bool) (vs : List ValueRecord) (v : ValueRecord) → find t vs ≡ Some v → In v vs
 find_in t [] v e = absurd cc
 find_in t (u ∷ us) v e = go (t u) (find_in t us v) e
   where

@@ -33,10 +33,10 @@ pub needs_apart : (s : Setting) (f : FuncRecord) → Sound s f → (b : BlockRec
 needs_apart s f h b v i n = h.order b v i (needs_precede f b v v n)
 
 -- values with an effect are neither phis nor copies nor the first state of all
-effect_no_phi : (v : ValueRecord) → has_effect v ≡ true → ¬ IsPhi v
+pub effect_no_phi : (v : ValueRecord) → has_effect v ≡ true → ¬ IsPhi v
 effect_no_phi v e = no_effect v op.Phi refl e
 
-effect_no_copy : (v : ValueRecord) → has_effect v ≡ true → ¬ (v.op.family ≡ op.Copy)
+pub effect_no_copy : (v : ValueRecord) → has_effect v ≡ true → ¬ (v.op.family ≡ op.Copy)
 effect_no_copy v e = no_effect v op.Copy refl e
 
 -- phis and the first state of all name no state
@@ -72,7 +72,7 @@ first_unnamed s f h b v i (inr o) n (k, m, at, got, stands) = go at
     go (inr (inr (inr c))) = let q = init_args s f b v (h.rows b v i) o in absurd (omega (arith, q, c.1))
 
 -- a first state as the meaning looks for it
-first_found : (v : ValueRecord) → is_first_state v.ty v.op.family ≡ true → IsFirst v
+pub first_found : (v : ValueRecord) → is_first_state v.ty v.op.family ≡ true → IsFirst v
 first_found v e = go v.op.family refl e
   where
     go : (o : Family) → v.op.family ≡ o → is_first_state v.ty o ≡ true → IsFirst v
@@ -80,11 +80,11 @@ first_found v e = go v.op.family refl e
     go op.InitMem q d = inr q
     go _ q d = absurd cc
 
-found_first : (v : ValueRecord) → IsFirst v → is_first_state v.ty v.op.family ≡ true
+pub found_first : (v : ValueRecord) → IsFirst v → is_first_state v.ty v.op.family ≡ true
 found_first v (inl (p, m)) = rw (p, m) refl
 found_first v (inr o) = rw o refl
 
-first_is_state : (s : Setting) (f : FuncRecord) → Sound s f → (b : BlockRecord) (v : ValueRecord) → HasValue f b v → IsFirst v → IsState f b v
+pub first_is_state : (s : Setting) (f : FuncRecord) → Sound s f → (b : BlockRecord) (v : ValueRecord) → HasValue f b v → IsFirst v → IsState f b v
 first_is_state s f h b v i (inl (p, m)) =
     (i, other_op v op.Phi op.Copy is_phi_op refl refl p, other_op v op.Phi op.MakeResult is_phi_op refl refl p, inr m, λ q. absurd (other_op v op.Phi op.InitMem is_phi_op refl refl p q))
 first_is_state s f h b v i (inr o) =
@@ -107,7 +107,7 @@ linked_head : (f : FuncRecord) (b : BlockRecord) (n : ℕ) (ms : List ℕ) → I
 linked_head f b _ _ (first v i names) = (v, i, refl)
 linked_head f b _ _ (more v n ms i names l) = (v, i, refl)
 
-names_no_phi : (s : Setting) (f : FuncRecord) → Sound s f → (b : BlockRecord) (v : ValueRecord) → HasValue f b v → (n : ℕ) → Names f v n → ¬ IsPhi v
+pub names_no_phi : (s : Setting) (f : FuncRecord) → Sound s f → (b : BlockRecord) (v : ValueRecord) → HasValue f b v → (n : ℕ) → Names f v n → ¬ IsPhi v
 names_no_phi s f h b v i n (k, m, at, got, stands) p = go at
   where
     go : NamesAt v k → ⊥
@@ -117,7 +117,7 @@ names_no_phi s f h b v i n (k, m, at, got, stands) p = go at
     go (inr (inr (inr c))) = let q = phi_no_memory s f b v (h.rows b v i) p in let d = sym q ∙ c.0 in absurd cc
 
 -- the head of linked numbers needs the others
-linked_needs : (s : Setting) (f : FuncRecord) → Sound s f → (b : BlockRecord) → IsReached f b → (t : ℕ) (ys : List ℕ) → IsLinked f b (t ∷ ys) → (v u : ValueRecord) → HasValue f b v → v.id ≡ t → HasValue f b u →
+pub linked_needs : (s : Setting) (f : FuncRecord) → Sound s f → (b : BlockRecord) → IsReached f b → (t : ℕ) (ys : List ℕ) → IsLinked f b (t ∷ ys) → (v u : ValueRecord) → HasValue f b v → v.id ≡ t → HasValue f b u →
     In u.id ys → Needs b v u
 linked_needs s f h b r _ _ (first w i names) v u iv e iu j = elim j [ ]
 linked_needs s f h b r _ _ (more w n ms i names l) v u iv e iu j =
@@ -150,7 +150,7 @@ linked_after s f h b r w n ms i names l v u iv iu e j =
       ];
     }
 
-abbrev InOrder : FuncRecord → BlockRecord → List ℕ → ValueRecord → ValueRecord → Type 0
+abbrev pub InOrder : FuncRecord → BlockRecord → List ℕ → ValueRecord → ValueRecord → Type 0
 InOrder f b xs v u = (v ≡ u) ⊎ After f b xs v u ⊎ After f b xs u v
 
 wider_order : (f : FuncRecord) (b : BlockRecord) (x : ℕ) (xs : List ℕ) (v u : ValueRecord) → InOrder f b xs v u → InOrder f b (x ∷ xs) v u
@@ -158,7 +158,7 @@ wider_order f b x xs v u (inl e) = inl e
 wider_order f b x xs v u (inr (inl a)) = inr (inl (wider f b x xs v u a))
 wider_order f b x xs v u (inr (inr a)) = inr (inr (wider f b x xs u v a))
 
-linked_order : (s : Setting) (f : FuncRecord) → Sound s f → (b : BlockRecord) → IsReached f b → (xs : List ℕ) → IsLinked f b xs → (v u : ValueRecord) → HasValue f b v → HasValue f b u → In v.id xs → In u.id xs →
+pub linked_order : (s : Setting) (f : FuncRecord) → Sound s f → (b : BlockRecord) → IsReached f b → (xs : List ℕ) → IsLinked f b xs → (v u : ValueRecord) → HasValue f b v → HasValue f b u → In v.id xs → In u.id xs →
     InOrder f b xs v u
 linked_order s f h b r _ (first w i names) v u iv iu (inl e) (inl d) = inl (h.named.same_value b b v u iv iu (sym e ∙ d))
 linked_order s f h b r _ (first w i names) v u iv iu (inl e) (inr j) = elim j [ ]
@@ -177,7 +177,26 @@ pub record Chain (f : FuncRecord) (b : BlockRecord) : Type 0 where
   pub start : ValueRecord
   pub stands : HasValue f b start
   pub is_state : IsState f b start
+  pub bottom : (n : ℕ) → Names f start n → ¬ IsStateOf f b n
   pub way : IsPhi start ⊎ (start.op.family ≡ op.InitMem) ⊎ ((m : ℕ) × Names f start m × IsFirstState f b m)
+
+linked_tail : (f : FuncRecord) (b : BlockRecord) (x y : ℕ) (ys : List ℕ) → IsLinked f b (x ∷ y ∷ ys) → IsLinked f b (y ∷ ys)
+linked_tail f b _ _ _ (more v n ms i names l) = l
+
+-- the value of the last number names no state of the block
+record Bottom (f : FuncRecord) (b : BlockRecord) (m : ℕ) : Type 0 where
+  value : ValueRecord
+  stands : HasValue f b value
+  named : value.id ≡ m
+  names : (n : ℕ) → Names f value n → ¬ IsStateOf f b n
+
+linked_one : (f : FuncRecord) (b : BlockRecord) (m : ℕ) → IsLinked f b (m ∷ []) → Bottom f b m
+linked_one f b _ (first v i names) = record { value = v; stands = i; named = refl; names = names }
+
+linked_last : (f : FuncRecord) (b : BlockRecord) (m : ℕ) (xs : List ℕ) → IsLinked f b (xs ++ m ∷ []) → Bottom f b m
+linked_last f b m [] l = linked_one f b m l
+linked_last f b m (x ∷ []) l = linked_one f b m (linked_tail f b x m [] l)
+linked_last f b m (x ∷ y ∷ ys) l = linked_last f b m (y ∷ ys) (linked_tail f b x y (ys ++ m ∷ []) l)
 
 chain_of : (s : Setting) (f : FuncRecord) → Sound s f → (b : BlockRecord) → (ms : List ℕ) (m : ℕ) → IsChain f b (ms ++ m ∷ []) → Starts f b m → Chain f b
 chain_of s f h b ms m c (v, i, e, way) = record {
@@ -188,9 +207,13 @@ chain_of s f h b ms m c (v, i, e, way) = record {
   start = v;
   stands = i;
   is_state = state ((c.states m).0 (to_contains m (ms ++ m ∷ []) (last ms)));
+  bottom = lowest (linked_last f b m ms c.linked);
   way = way;
 }
   where
+    lowest : Bottom f b m → (n : ℕ) → Names f v n → ¬ IsStateOf f b n
+    lowest q = (let P : ValueRecord → Type 0 = λ x. (n : ℕ) → Names f x n → ¬ IsStateOf f b n in subst P (h.named.same_value b b q.value v q.stands i (q.named ∙ sym e)) q.names)
+
     last : (xs : List ℕ) → In m (xs ++ m ∷ [])
     last [] = inl refl
     last (x ∷ xs) = inr (last xs)

@@ -10,3 +10,4 @@ pub mod Steady
 pub mod Edges
 pub mod Typed
 pub mod Chains
+pub mod Follows
