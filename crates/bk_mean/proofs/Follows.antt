@@ -73,7 +73,7 @@ pub data Chained (f : FuncRecord) (b : BlockRecord) : ℕ → List ValueRecord �
 
 -- what the meaning finds
 
-find_true : (t : ValueRecord → Bool) (vs : List ValueRecord) (v : ValueRecord) → find t vs ≡ Some v → t v ≡ true
+pub find_true : (t : ValueRecord → Bool) (vs : List ValueRecord) (v : ValueRecord) → find t vs ≡ Some v → t v ≡ true
 find_true t [] v e = absurd cc
 find_true t (u ∷ us) v e = go (t u) refl (find_true t us v) e
   where
@@ -81,7 +81,7 @@ find_true t (u ∷ us) v e = go (t u) refl (find_true t us v) e
     go true q k d = let w : u ≡ v = cc in ap t (sym w) ∙ q
     go false q k d = k d
 
-find_none : (t : ValueRecord → Bool) (vs : List ValueRecord) (v : ValueRecord) → find t vs ≡ None → In v vs → ¬ (t v ≡ true)
+pub find_none : (t : ValueRecord → Bool) (vs : List ValueRecord) (v : ValueRecord) → find t vs ≡ None → In v vs → ¬ (t v ≡ true)
 find_none t [] v e i d = elim i [ ]
 find_none t (u ∷ us) v e (inl q) d =
     let a : t u ≡ true = ap t q ∙ d in
@@ -132,12 +132,12 @@ effects b = map (λ v. v.id) (filter has_effect b.values)
 abbrev Alive : ℕ → Type 0
 Alive n = Unit {0}
 
-id_in : (v : ValueRecord) (vs : List ValueRecord) → In v vs → In v.id (map (λ v. v.id) vs)
+pub id_in : (v : ValueRecord) (vs : List ValueRecord) → In v vs → In v.id (map (λ v. v.id) vs)
 id_in v [] i = elim i [ ]
 id_in v (u ∷ us) (inl e) = inl (ap (λ (x : ValueRecord). x.id) e)
 id_in v (u ∷ us) (inr i) = inr (id_in v us i)
 
-in_ids : (n : ℕ) (vs : List ValueRecord) → In n (map (λ v. v.id) vs) → (v : ValueRecord) × In v vs × (v.id ≡ n)
+pub in_ids : (n : ℕ) (vs : List ValueRecord) → In n (map (λ v. v.id) vs) → (v : ValueRecord) × In v vs × (v.id ≡ n)
 in_ids n [] i = elim i [ ]
 in_ids n (u ∷ us) (inl e) = (u, inl refl, e)
 in_ids n (u ∷ us) (inr i) = let r = in_ids n us i in (r.0, inr r.1, r.2)

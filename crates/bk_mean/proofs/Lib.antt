@@ -11,3 +11,4 @@ pub mod Edges
 pub mod Typed
 pub mod Chains
 pub mod Follows
+pub mod Course
