@@ -26,7 +26,7 @@ abbrev pub IfGives : {A : Type 0} → Run A → (A → World → Type 0) → Typ
 IfGives (gives a w) R = R a w
 IfGives (stops o d) R = Unit {0}
 
-then_gives : {A B : Type 0} (r : Run A) (go : A → World → Run B) (R : A → World → Type 0) (S : B → World → Type 0) → IfGives r R → ((a : A) (w : World) → R a w → IfGives (go a w) S) → IfGives (bind r go) S
+pub then_gives : {A B : Type 0} (r : Run A) (go : A → World → Run B) (R : A → World → Type 0) (S : B → World → Type 0) → IfGives r R → ((a : A) (w : World) → R a w → IfGives (go a w) S) → IfGives (bind r go) S
 then_gives (gives a w) go R S h k = k a w h
 then_gives (stops o d) go R S h k = tt
 
@@ -209,7 +209,7 @@ done_steady s f h calls p b v r i a w = go (done_at calls p f v a w) (done_agree
 
 -- the memory values of a block
 
-checked_gives : (p : Program) (f : FuncRecord) (b : BlockRecord) (a : Activation) (w : World) → IfGives (checked_at p f b a w) (λ d x. (d ≡ a) × (x ≡ w))
+pub checked_gives : (p : Program) (f : FuncRecord) (b : BlockRecord) (a : Activation) (w : World) → IfGives (checked_at p f b a w) (λ d x. (d ≡ a) × (x ≡ w))
 checked_gives p f b a w = go (first_fault p.target (numbers p f a.env) w.window (order f b a.memory))
   where
     go : (o : Option Outcome) → IfGives (halted o a w) (λ d x. (d ≡ a) × (x ≡ w))

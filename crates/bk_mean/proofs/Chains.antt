@@ -1,32 +1,24 @@
 -- The states of a block that is reached follow one another from the state that it begins with, and the meaning does them all.
-use Rattle.std.proofs.Common.{◌≡◌, ℕ, zero, suc, ◌+◌, ◌<◌, ◌≤◌, refl, ap, sym, ◌∙◌, subst, arith, ◌⊎◌, inl, inr, List, [], ◌∷◌, ◌++◌, length, map, Option, Some, None, Bool, true, false, cond, ◌&&◌, ◌==◌, eq-eqb}
-use Rattle.std.specs.Prelude.{find, filter, count_by, slice_get, if◌then◌else◌}
-use Rattle.std.proofs.lemmas.Bool.{eqb-true, and_parts}
-use Rattle.std.proofs.lemmas.List.{length-map}
-use Rattle.std.proofs.lemmas.List.Sums.{length-filter}
-use Rattle.bk_ops.specs.Table.{info_of}
+use Rattle.std.proofs.Common.{◌≡◌, ℕ, refl, ap, sym, ◌∙◌, subst, arith, ◌⊎◌, inl, inr, List, [], ◌∷◌, ◌++◌, Bool, true, false}
 use Rattle.bk_ops.specs.declared.family.Family.{Family}
 use Rattle.bk_ops.specs.declared.family.Family.TheVariants as op
-use Rattle.bk_ops.specs.declared.types.Ty.{Ty}
 use Rattle.bk_ops.specs.declared.types.Ty.TheVariants.{Mem}
 use Rattle.bk_func.specs.Records.{ValueRecord, BlockRecord, FuncRecord}
-use Rattle.bk_func.specs.Numbers.{origin_of, state_of, is_mem}
-use Rattle.bk_func.specs.Effects.{effect_of, has_effect, is_at, next_at, onward, chain, chain_from}
-use Rattle.bk_func.specs.Meaning.{is_first_state, state_or, first_state}
-use Rattle.bk_func.specs.Form.Text.{HasBlock, HasValue, Defines, IsEntry, IsPhi}
-use Rattle.bk_func.specs.Form.Walks.{Walk, begin, onward as step, IsReached}
-use Rattle.bk_func.specs.Form.States.{IsState, IsStateOf, NamesAt, Names, IsLinked, first, more, IsChain, Carries, made, kept, IsFirstState, Starts, HasChain, HasMemoryPhi, IsStateIn}
+use Rattle.bk_func.specs.Effects.{has_effect}
+use Rattle.bk_func.specs.Meaning.{is_first_state}
+use Rattle.bk_func.specs.Form.Text.{HasValue, IsPhi}
+use Rattle.bk_func.specs.Form.Walks.{IsReached}
+use Rattle.bk_func.specs.Form.States.{IsState, IsStateOf, NamesAt, Names, IsLinked, first, more, IsChain, IsFirstState, Starts, HasChain}
 use Rattle.bk_func.specs.Form.Before.{Needs}
 use Rattle.bk_func.specs.Form.Signatures.{Setting}
-use Rattle.bk_func.proofs.Faults.{In, filter-in, in-filter}
+use Rattle.bk_func.proofs.Faults.{In}
 use Rattle.bk_mean.proofs.Named.{to_in, to_contains}
-use Rattle.bk_mean.proofs.Dominance.{reached_block, walk_blocks}
-use Rattle.bk_mean.proofs.Longest.{Way, way_short}
+use Rattle.bk_mean.proofs.Dominance.{reached_block}
 use Rattle.bk_mean.proofs.Roles.{only_mem, init_args, phi_no_memory}
-use Rattle.bk_mean.proofs.Typed.{effect_is_state, named_effect, no_effect, init_memory}
+use Rattle.bk_mean.proofs.Typed.{no_effect, init_memory}
 use Rattle.bk_mean.proofs.Formed.{Sound}
 use Rattle.bk_mean.proofs.Ranks.{needs_precede, needs_onward}
-use Rattle.bk_mean.proofs.States.{state_named, named_state, needs_named}
+use Rattle.bk_mean.proofs.States.{needs_named}
 
 -- no value needs itself, nor what needs it
 pub needs_apart : (s : Setting) (f : FuncRecord) → Sound s f → (b : BlockRecord) (v : ValueRecord) → HasValue f b v → ¬ Needs b v v
@@ -124,9 +116,9 @@ linked_needs s f h b r _ _ (more w n ms i names l) v u iv e iu j =
     let P : ValueRecord → Type 0 = λ x. Needs b x u in
     subst P (h.named.same_value b b w v i iv (sym e))
     (elim j as (λ _. Needs b w u) [
-        | inl q ↦ needs_named s f h b r w u i iu (names_no_phi s f h b w i n names) n names (sym q)
-        | inr q ↦ (let x = linked_head f b n ms l in
-            needs_onward b w x.0 u (needs_named s f h b r w x.0 i x.1 (names_no_phi s f h b w i n names) n names x.2) (linked_needs s f h b r n ms l x.0 u x.1 x.2 iu q))
+      | inl q ↦ needs_named s f h b r w u i iu (names_no_phi s f h b w i n names) n names (sym q)
+      | inr q ↦ (let x = linked_head f b n ms l in
+          needs_onward b w x.0 u (needs_named s f h b r w x.0 i x.1 (names_no_phi s f h b w i n names) n names x.2) (linked_needs s f h b r n ms l x.0 u x.1 x.2 iu q))
     ])
 
 wider : (f : FuncRecord) (b : BlockRecord) (x : ℕ) (xs : List ℕ) (v u : ValueRecord) → After f b xs v u → After f b (x ∷ xs) v u

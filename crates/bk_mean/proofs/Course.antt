@@ -1,27 +1,24 @@
 -- The state that a block begins with, the memory values after it, and the state that it ends with, along a walk.
-use Rattle.std.proofs.Common.{◌≡◌, ℕ, zero, suc, ◌+◌, refl, ap, sym, ◌∙◌, subst, arith, ◌⊎◌, inl, inr, List, [], ◌∷◌, ◌++◌, map, Option, Some, None, Bool, true, false}
+use Rattle.std.proofs.Common.{◌≡◌, ℕ, refl, ap, sym, ◌∙◌, subst, ◌⊎◌, inl, inr, List, [], ◌∷◌, Option, Some, None, Bool, true}
 use Rattle.std.specs.Prelude.{find}
-use Rattle.std.specs.List.{Contains}
 use Rattle.bk_ops.specs.declared.family.Family.TheVariants as op
 use Rattle.bk_ops.specs.declared.types.Ty.TheVariants.{Mem}
 use Rattle.bk_func.specs.Records.{ValueRecord, BlockRecord, FuncRecord}
-use Rattle.bk_func.specs.Numbers.{state_of}
 use Rattle.bk_func.specs.Effects.{has_effect, chain_from}
 use Rattle.bk_func.specs.Meaning.{is_first_state, state_or, first_state}
-use Rattle.bk_func.specs.Form.Text.{HasBlock, HasValue, IsEntry, IsPhi}
-use Rattle.bk_func.specs.Form.Walks.{Walk, begin, onward as step, IsReached}
-use Rattle.bk_func.specs.Form.States.{IsState, IsStateOf, Names, IsLinked, first, more, IsChain, Carries, made, kept, IsFirstState, Starts, HasChain, HasMemoryPhi, IsStateIn}
-use Rattle.bk_func.specs.Form.Before.{Needs}
+use Rattle.bk_func.specs.Form.Text.{HasBlock, HasValue, IsPhi}
+use Rattle.bk_func.specs.Form.Walks.{begin, IsReached}
+use Rattle.bk_func.specs.Form.States.{IsState, IsStateOf, Names, IsLinked, first, more, Carries, IsFirstState, IsStateIn}
 use Rattle.bk_func.specs.Form.Signatures.{Setting}
 use Rattle.bk_func.proofs.Faults.{In}
 use Rattle.bk_mean.proofs.Named.{to_in, to_contains}
 use Rattle.bk_mean.proofs.Dominance.{reached_block}
 use Rattle.bk_mean.proofs.Typed.{effect_is_state, named_effect, no_effect}
 use Rattle.bk_mean.proofs.Formed.{Sound}
-use Rattle.bk_mean.proofs.States.{state_named, named_state, needs_named}
+use Rattle.bk_mean.proofs.States.{state_named}
 use Rattle.bk_mean.proofs.Along.{find_in}
-use Rattle.bk_mean.proofs.Chains.{needs_apart, names_no_phi, IsFirst, first_unnamed, first_found, found_first, first_is_state, linked_needs, linked_order, After, Chain, its_chain}
-use Rattle.bk_mean.proofs.Follows.{Follows, follows_needs, find_true, find_none, Chained, done, next, chain_complete, numbers_of, id_in, in_ids, IsMet, chained_next}
+use Rattle.bk_mean.proofs.Chains.{names_no_phi, IsFirst, first_unnamed, first_found, found_first, first_is_state, linked_order, Chain, its_chain}
+use Rattle.bk_mean.proofs.Follows.{Follows, find_true, find_none, chain_complete, id_in, IsMet, chained_next}
 
 -- the state is the one that all walks lead to the block with, if they lead with one
 abbrev pub Meets : FuncRecord → BlockRecord → ℕ → Type 0
@@ -38,8 +35,8 @@ first_one s f h b r v u iv iu pv pu =
     elim (linked_order s f h b r c.numbers c.linked v u iv iu (c.all v kv) (c.all u ku)) as (λ _. v ≡ u) [
       | inl e ↦ e
       | inr q ↦ (elim q as (λ _. v ≡ u) [
-          | inl a ↦ absurd (first_unnamed s f h b v iv pv a.number a.names)
-          | inr a ↦ absurd (first_unnamed s f h b u iu pu a.number a.names)
+        | inl a ↦ absurd (first_unnamed s f h b v iv pv a.number a.names)
+        | inr a ↦ absurd (first_unnamed s f h b u iu pu a.number a.names)
       ])
     ]
 
@@ -77,10 +74,11 @@ done_met m vs w (inr i) = inr (id_in w vs i)
 -- a state that names a state of the block
 names_follows : (s : Setting) (f : FuncRecord) → Sound s f → (b : BlockRecord) → IsReached f b → (w : ValueRecord) → IsState f b w → (n : ℕ) → Names f w n → Follows f b n w
 names_follows s f h b r w k n (j, m, at, got, stands) =
-    let names : Names f w n = (j, m, at, got, stands) in
-    (k.0,
-    named_effect s f b w (h.types b w k.0) k j m at got (λ o. first_unnamed s f h b w k.0 (inr o) n names),
-    state_named s f h b w k.0 r (names_no_phi s f h b w k.0 n names) k.1 n names)
+    let names : Names f w n = (j, m, at, got, stands) in (
+      k.0,
+      named_effect s f b w (h.types b w k.0) k j m at got (λ o. first_unnamed s f h b w k.0 (inr o) n names),
+      state_named s f h b w k.0 r (names_no_phi s f h b w k.0 n names) k.1 n names,
+    )
 
 -- what is done from the lowest state of a block on
 start_done : (s : Setting) (f : FuncRecord) → Sound s f → (b : BlockRecord) → IsReached f b → (c : Chain f b) (m : ℕ) → Meets f b m → IsDone (first_state b m) (chain_from f b (first_state b m)) c.start
@@ -98,8 +96,8 @@ start_done s f h b r c m meets = go c.way
         elim (linked_order s f h b r c.numbers c.linked v c.start i c.stands (c.all v (first_is_state s f h b v i p)) (c.all c.start c.is_state)) as (λ _. ⊥) [
           | inl e ↦ first_unnamed s f h b v i p n (let P : ValueRecord → Type 0 = λ x. Names f x n in subst P (sym e) names)
           | inr q ↦ (elim q as (λ _. ⊥) [
-              | inl a ↦ first_unnamed s f h b v i p a.number a.names
-              | inr a ↦ c.bottom a.number a.names (c.states a.number a.listed)
+            | inl a ↦ first_unnamed s f h b v i p a.number a.names
+            | inr a ↦ c.bottom a.number a.names (c.states a.number a.listed)
           ])
         ]
 
@@ -116,8 +114,8 @@ lowest_one s f h b r c w k out =
     elim (linked_order s f h b r c.numbers c.linked w c.start k.0 c.stands (c.all w k) (c.all c.start c.is_state)) as (λ _. w ≡ c.start) [
       | inl e ↦ e
       | inr q ↦ (elim q as (λ _. w ≡ c.start) [
-          | inl a ↦ absurd (out a.number a.names (c.states a.number a.listed))
-          | inr a ↦ absurd (c.bottom a.number a.names (c.states a.number a.listed))
+        | inl a ↦ absurd (out a.number a.names (c.states a.number a.listed))
+        | inr a ↦ absurd (c.bottom a.number a.names (c.states a.number a.listed))
       ])
     ]
 

@@ -1,19 +1,18 @@
 -- The place of an edge among the predecessors of the block that it leads to, and what a phi takes there.
-use Rattle.std.proofs.Common.{◌≡◌, ℕ, zero, suc, ◌+◌, ◌-◌, ◌<◌, ◌≤◌, ◌==◌, refl, ap, sym, ◌∙◌, subst, arith, ◌⊎◌, inl, inr, List, [], ◌∷◌, length, take, Option, Some, None, Bool, true, false, cond, eq-eqb, ne_eqb}
+use Rattle.std.proofs.Common.{◌≡◌, ℕ, zero, suc, ◌+◌, ◌-◌, ◌<◌, ◌==◌, refl, ap, sym, ◌∙◌, subst, arith, ◌⊎◌, inl, inr, List, [], ◌∷◌, take, Some, Bool, true, false, cond, eq-eqb, ne_eqb}
 use Rattle.std.specs.Prelude.{sum_by, count_by, slice_get, slice_index, if◌then◌else◌}
-use Rattle.std.specs.List.{Contains}
-use Rattle.std.proofs.lemmas.Bool.{eqb-true, cases_eq}
+use Rattle.std.proofs.lemmas.Bool.{cases_eq}
 use Rattle.std.proofs.lemmas.List.Sums.{sum_by-cons}
 use Rattle.bk_func.specs.Records.{ValueRecord, BlockRecord, FuncRecord}
-use Rattle.bk_func.specs.Numbers.{Program, Origin, phi, origin_of, numbers, value_of, value_in, number_of}
-use Rattle.bk_func.specs.Edits.{block_of, nth_place, rank_in}
-use Rattle.bk_func.specs.Meaning.{World, Activation, edge_place, phi_by, entered}
+use Rattle.bk_func.specs.Numbers.{Program, origin_of, numbers}
+use Rattle.bk_func.specs.Edits.{nth_place, rank_in}
+use Rattle.bk_func.specs.Meaning.{World, Activation, edge_place, entered}
 use Rattle.bk_func.specs.declared.form.FormKind.TheVariants.{Control, Missing, Use}
 use Rattle.bk_func.specs.Form.{Keeps}
 use Rattle.bk_func.specs.Form.Text.{HasBlock, HasValue, IsPhi}
 use Rattle.bk_func.specs.Form.Walks.{IsReached, IsDefinedAt}
 use Rattle.bk_func.specs.Form.Signatures.{Setting}
-use Rattle.bk_func.specs.Form.Parts.{IsBlockNumber, edges_out, edges_in}
+use Rattle.bk_func.specs.Form.Parts.{IsBlockNumber}
 use Rattle.bk_func.proofs.Faults.{In}
 use Rattle.bk_func.proofs.Unique.{solved}
 use Rattle.bk_mean.proofs.Named.{to_in, found_value, found_here}

@@ -1,30 +1,27 @@
 -- The memory values that the meaning does in a block are all that the block has, each after the state that it names.
-use Rattle.std.proofs.Common.{◌≡◌, ℕ, zero, suc, ◌+◌, ◌<◌, ◌≤◌, refl, ap, sym, ◌∙◌, subst, arith, ◌⊎◌, inl, inr, List, [], ◌∷◌, ◌++◌, length, map, Option, Some, None, Bool, true, false, cond, ◌&&◌, ◌==◌, eq-eqb}
-use Rattle.std.specs.Prelude.{find, filter, count_by, slice_get, if◌then◌else◌}
+use Rattle.std.proofs.Common.{◌≡◌, ℕ, zero, suc, ◌+◌, refl, ap, sym, ◌∙◌, subst, arith, ◌⊎◌, inl, inr, List, [], ◌∷◌, length, map, Option, Some, None, Bool, true, false, cond, ◌&&◌, eq-eqb}
+use Rattle.std.specs.Prelude.{find, filter, count_by}
 use Rattle.std.proofs.lemmas.Bool.{eqb-true, and_parts}
 use Rattle.std.proofs.lemmas.List.{length-map}
 use Rattle.std.proofs.lemmas.List.Sums.{length-filter}
-use Rattle.bk_ops.specs.declared.family.Family.TheVariants as op
-use Rattle.bk_ops.specs.declared.types.Ty.TheVariants.{Mem}
 use Rattle.bk_func.specs.Records.{ValueRecord, BlockRecord, FuncRecord}
 use Rattle.bk_func.specs.Numbers.{state_of}
 use Rattle.bk_func.specs.Effects.{has_effect, is_at, next_at, onward, chain, chain_from}
-use Rattle.bk_func.specs.Meaning.{is_first_state, state_or, first_state}
-use Rattle.bk_func.specs.Form.Text.{HasBlock, HasValue, IsEntry, IsPhi}
-use Rattle.bk_func.specs.Form.Walks.{Walk, begin, onward as step, IsReached}
-use Rattle.bk_func.specs.Form.States.{IsState, IsStateOf, Names, IsLinked, first, more, IsChain, Carries, made, kept, IsFirstState, HasChain, HasMemoryPhi, IsStateIn}
+use Rattle.bk_func.specs.Form.Text.{HasBlock, HasValue}
+use Rattle.bk_func.specs.Form.Walks.{IsReached}
+use Rattle.bk_func.specs.Form.States.{IsState, Names}
 use Rattle.bk_func.specs.Form.Before.{Needs}
 use Rattle.bk_func.specs.Form.Signatures.{Setting}
 use Rattle.bk_func.proofs.Faults.{In, filter-in, in-filter}
 use Rattle.bk_mean.proofs.Named.{to_in, to_contains}
 use Rattle.bk_mean.proofs.Dominance.{reached_block}
 use Rattle.bk_mean.proofs.Longest.{Way, way_short}
-use Rattle.bk_mean.proofs.Typed.{effect_is_state, named_effect, no_effect}
+use Rattle.bk_mean.proofs.Typed.{effect_is_state}
 use Rattle.bk_mean.proofs.Formed.{Sound}
 use Rattle.bk_mean.proofs.Ranks.{needs_onward}
 use Rattle.bk_mean.proofs.States.{state_named, named_state, needs_named}
 use Rattle.bk_mean.proofs.Along.{find_in}
-use Rattle.bk_mean.proofs.Chains.{needs_apart, effect_no_phi, effect_no_copy, names_no_phi, IsFirst, first_unnamed, first_found, found_first, first_is_state, linked_needs, linked_order, InOrder, After, Chain, its_chain}
+use Rattle.bk_mean.proofs.Chains.{needs_apart, effect_no_phi, effect_no_copy, linked_order, After, its_chain}
 
 -- a memory value of the block that names the state
 abbrev pub Follows : FuncRecord → BlockRecord → ℕ → ValueRecord → Type 0
@@ -61,8 +58,8 @@ follows_one s f h b r m v u tv tu =
     elim (linked_order s f h b r c.numbers c.linked v u tv.0 tu.0 (c.all v kv) (c.all u ku)) as (λ _. v ≡ u) [
       | inl e ↦ e
       | inr q ↦ (elim q as (λ _. v ≡ u) [
-          | inl a ↦ absurd (not_after s f h b r m v u c.numbers tv tu a)
-          | inr a ↦ absurd (not_after s f h b r m u v c.numbers tu tv a)
+        | inl a ↦ absurd (not_after s f h b r m v u c.numbers tv tu a)
+        | inr a ↦ absurd (not_after s f h b r m u v c.numbers tu tv a)
       ])
     ]
 
@@ -197,9 +194,9 @@ chained : (s : Setting) (f : FuncRecord) → Sound s f → (b : BlockRecord) →
 unfolding chain
 chained s f h b r zero m xs d e =
     done m (λ v t.
-        let q = done_more s f h b r m xs d v t in
-        let l = way_short Alive (IsNeeded f b) (not_itself s f h b) (v.id ∷ xs) (effects b) q.way q.are_effects in
-        absurd (omega (arith, l, e)))
+    let q = done_more s f h b r m xs d v t in
+    let l = way_short Alive (IsNeeded f b) (not_itself s f h b) (v.id ∷ xs) (effects b) q.way q.are_effects in
+    absurd (omega (arith, l, e)))
 chained s f h b r (suc k) m xs d e =
     go (next_at f b m) refl (λ v t. chained s f h b r k v.id (v.id ∷ xs) (done_more s f h b r m xs d v t) (omega (arith, e)))
   where

@@ -1,5 +1,9 @@
 pub mod Along
+pub mod Chains
+pub mod Course
 pub mod Dominance
+pub mod Edges
+pub mod Follows
 pub mod Formed
 pub mod Longest
 pub mod Named
@@ -7,8 +11,5 @@ pub mod Ranks
 pub mod Roles
 pub mod States
 pub mod Steady
-pub mod Edges
 pub mod Typed
-pub mod Chains
-pub mod Follows
-pub mod Course
+pub mod Walked

@@ -1,5 +1,5 @@
 -- Numbers stay where what changes stands in a block that they do not need.
-use Rattle.std.proofs.Common.{◌≡◌, ℕ, ◌<◌, refl, ap, sym, ◌∙◌, subst, arith, inl, inr, Option, Some, false}
+use Rattle.std.proofs.Common.{◌≡◌, ℕ, ◌<◌, refl, ap, sym, ◌∙◌, subst, arith, inr, Option, Some, false}
 use Rattle.std.specs.Prelude.{slice_get, slice_index, unwrap_or}
 use Rattle.std.specs.List.{Contains}
 use Rattle.bk_func.specs.Records.{ValueRecord, BlockRecord, FuncRecord}

@@ -1,11 +1,10 @@
 -- The values with an effect are the states of a block that name another state, or a call.
-use Rattle.std.proofs.Common.{◌≡◌, ℕ, zero, suc, ◌+◌, refl, ap, sym, ◌∙◌, subst, arith, ◌⊎◌, inl, inr, List, [], ◌∷◌, length, Option, Some, None, Bool, true, false}
+use Rattle.std.proofs.Common.{◌≡◌, ℕ, refl, ap, sym, ◌∙◌, subst, arith, ◌⊎◌, inl, inr, Some, None, Bool, true, false}
 use Rattle.std.specs.Prelude.{is_some, if◌then◌else◌, slice_get}
-use Rattle.bk_ops.specs.Table.{entry, row, arm_row, rv_row, is_op, info_of}
+use Rattle.bk_ops.specs.Table.{entry, row, arm_row, rv_row}
 use Rattle.bk_ops.specs.Types.{width_of, word_width}
 use Rattle.bk_ops.specs.declared.table.Class.{Class}
-use Rattle.bk_ops.specs.declared.table.Class.TheVariants.{Mem as State, Void as Nothing, Word, ByType}
-use Rattle.bk_ops.specs.declared.table.Op.{Op}
+use Rattle.bk_ops.specs.declared.table.Class.TheVariants.{Mem as State}
 use Rattle.bk_ops.specs.declared.table.OpInfo.{OpInfo}
 use Rattle.bk_ops.specs.declared.types.Target.{Target}
 use Rattle.bk_ops.specs.declared.types.Target.TheVariants.{Arm as OnArm, Riscv64 as OnRv}
@@ -18,8 +17,8 @@ use Rattle.bk_ops.specs.declared.family.RvOp.TheVariants as rv
 use Rattle.bk_func.specs.Records.{ValueRecord, BlockRecord, FuncRecord}
 use Rattle.bk_func.specs.Numbers.{origin_of, is_mem}
 use Rattle.bk_func.specs.Effects.{pass, effect_of, has_effect, is_load, is_check}
-use Rattle.bk_func.specs.Form.Text.{HasValue, IsPhi}
-use Rattle.bk_func.specs.Form.States.{IsState, NamesAt, Names, CopiesMemory}
+use Rattle.bk_func.specs.Form.Text.{HasValue}
+use Rattle.bk_func.specs.Form.States.{IsState, NamesAt}
 use Rattle.bk_func.specs.Form.Signatures.{Setting}
 use Rattle.bk_func.specs.Form.Shapes.{HasTypes, Gives, GivesByType, GivesWord, IsData, FitsBits}
 use Rattle.bk_mean.proofs.Roles.{loads, checks, only_mem, info_at}
