@@ -13,3 +13,4 @@ pub mod States
 pub mod Steady
 pub mod Typed
 pub mod Walked
+pub mod Needed
