@@ -91,7 +91,7 @@ find_none t (u ∷ us) v e (inr i) d = go (t u) (λ q. find_none t us v q i d) e
     go true k q = absurd cc
     go false k q = k q
 
-at_some : (o : Option ℕ) (m : ℕ) → is_at o m ≡ true → o ≡ Some m
+pub at_some : (o : Option ℕ) (m : ℕ) → is_at o m ≡ true → o ≡ Some m
 at_some None m e = absurd cc
 at_some (Some n) m e = ap Some (eqb-true n m e)
 

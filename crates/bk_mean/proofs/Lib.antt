@@ -14,3 +14,4 @@ pub mod Steady
 pub mod Typed
 pub mod Walked
 pub mod Needed
+pub mod Turns

@@ -62,3 +62,11 @@ true_needs s f h b r i (suc k) u v l (through _ w _ t n) =
     let P : Option ValueRecord → Type 0 = λ o. needs k b o v.id ≡ true in
     test_here k b u v.id w.id (not_phi u t.2) (to_in w.id u.args t.3)
     (or_right (w.id == v.id) (needs k b (value_in b.values w.id) v.id) (subst P (sym (found_here f h.named b w (i, t.0))) q))
+
+-- what a value needs ranks below it
+pub needs_rank : (s : Setting) (f : FuncRecord) → Sound s f → (b : BlockRecord) → IsReached f b → (u v : ValueRecord) → HasValue f b u → Needs b u v → rank f v.id < rank f u.id
+needs_rank s f h b r u v i (takes _ _ t) = (argument_falls s f h b u i r t.2 v.id (to_in v.id u.args t.3)).1
+needs_rank s f h b r u v i (through _ w _ t n) =
+    let q = needs_rank s f h b r w v (i.0, t.0) n in
+    let a = (argument_falls s f h b u i r t.2 w.id (to_in w.id u.args t.3)).1 in
+    omega (arith, q, a)

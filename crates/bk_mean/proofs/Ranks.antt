@@ -46,7 +46,7 @@ rank f n = deep (room f) (taken f) n
 
 -- needs lead backwards
 
-behind : (f : FuncRecord) (b : BlockRecord) (u v w : ValueRecord) → Precedes f b u v → ComesBefore f b v w → Precedes f b u w
+pub behind : (f : FuncRecord) (b : BlockRecord) (u v w : ValueRecord) → Precedes f b u v → ComesBefore f b v w → Precedes f b u w
 behind f b u v w (right _ _ c) d = onward u v w c (right v w d)
 behind f b u v w (onward _ x _ c p) d = onward u x w c (behind f b x v w p d)
 
