@@ -15,3 +15,4 @@ pub mod Typed
 pub mod Walked
 pub mod Needed
 pub mod Turns
+pub mod Levels
