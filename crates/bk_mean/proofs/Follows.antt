@@ -95,7 +95,7 @@ pub at_some : (o : Option ℕ) (m : ℕ) → is_at o m ≡ true → o ≡ Some m
 at_some None m e = absurd cc
 at_some (Some n) m e = ap Some (eqb-true n m e)
 
-some_at : (o : Option ℕ) (m : ℕ) → o ≡ Some m → is_at o m ≡ true
+pub some_at : (o : Option ℕ) (m : ℕ) → o ≡ Some m → is_at o m ≡ true
 some_at o m e = rw e (eq-eqb m m refl)
 
 next_follows : (f : FuncRecord) (b : BlockRecord) → HasBlock f b → (m : ℕ) (v : ValueRecord) → next_at f b m ≡ Some v → Follows f b m v

@@ -16,3 +16,4 @@ pub mod Walked
 pub mod Needed
 pub mod Turns
 pub mod Levels
+pub mod Laying

@@ -90,11 +90,17 @@ one_of_sum g x y (z ∷ zs) l (inr i) (inr j) p q =
 counts : (n m : ℕ) → n ≡ m → 0 < cond (n == m) 1 0
 counts n m e = rw (eq-eqb n m e) (omega arith)
 
+-- no value stands twice in a list
+abbrev pub Once : List ValueRecord → Type 0
+Once [] = Unit {0}
+Once (v ∷ vs) = ¬ In v vs × Once vs
+
 -- each number names one block, and one value of one block
 pub record IsNamed (f : FuncRecord) : Type 0 where
   pub one_block : (b c : BlockRecord) → HasBlock f b → HasBlock f c → b.id ≡ c.id → b ≡ c
   pub same_block : (b c : BlockRecord) (v u : ValueRecord) → HasValue f b v → HasValue f c u → v.id ≡ u.id → b ≡ c
   pub same_value : (b c : BlockRecord) (v u : ValueRecord) → HasValue f b v → HasValue f c u → v.id ≡ u.id → v ≡ u
+  pub once : (b : BlockRecord) → HasBlock f b → Once b.values
 
 only_block : (f : FuncRecord) (b c : BlockRecord) → IsBlockNumber f c.id → HasBlock f b → HasBlock f c → b.id ≡ c.id → b ≡ c
 unfolding IsBlockNumber
@@ -122,10 +128,30 @@ its_value f b v u n h i j e =
     let l = part_of_sum (λ (x : BlockRecord). count_by (λ w. w.id == u.id) x.values) b f.blocks (to_in b f.blocks h) in
     one_of_sum (λ (x : ValueRecord). cond (x.id == u.id) 1 0) v u b.values (omega (arith, n, l)) i j (counts v.id u.id e) (counts u.id u.id refl)
 
+once_counted : (vs : List ValueRecord) → ((v : ValueRecord) → In v vs → count_by (λ u. u.id == v.id) vs ≤ 1) → Once vs
+once_counted [] h = tt
+once_counted (x ∷ xs) h = (
+  λ i.
+      let s = sum_by-cons (λ (u : ValueRecord). cond (u.id == x.id) 1 0) x xs in
+      let l = part_of_sum (λ (u : ValueRecord). cond (u.id == x.id) 1 0) x xs i in
+      let a = counts x.id x.id refl in
+      let k = h x (inl refl) in
+      absurd (omega (arith, s, l, a, k)),
+  once_counted xs (λ v i.
+      let s = sum_by-cons (λ (u : ValueRecord). cond (u.id == v.id) 1 0) x xs in
+      let k = h v (inr i) in
+      omega (arith, s, k)),
+)
+
+counted_once : (f : FuncRecord) (b : BlockRecord) (v : ValueRecord) → IsValueNumber f v.id → HasBlock f b → count_by (λ u. u.id == v.id) b.values ≤ 1
+unfolding IsValueNumber
+counted_once f b v n i = let l = part_of_sum (λ (x : BlockRecord). count_by (λ w. w.id == v.id) x.values) b f.blocks (to_in b f.blocks i) in omega (arith, n, l)
+
 pub is_named : (s : Setting) (f : FuncRecord) → Keeps s f Missing → IsNamed f
 is_named s f k = record {
   one_block = λ b c i j e. only_block f b c (k c j).block.own i j e;
   same_block = block;
+  once = λ b i. once_counted b.values (λ v j. counted_once f b v ((k b i).value v (to_contains v b.values j)).own i);
   same_value = λ b c v u i j e.
       let q = block b c v u i j e in
       its_value f c v u ((k c j.0).value u j.1).own j.0 (let P : BlockRecord → Type 0 = λ x. In v x.values in subst P q (to_in v b.values i.1)) (to_in u c.values j.1) e;

@@ -27,7 +27,7 @@ use Rattle.bk_mean.proofs.Follows.{at_some}
 
 -- lists
 
-filter-append : {A : Type 0} (t : A → Bool) (xs ys : List A) → filter t (xs ++ ys) ≡ filter t xs ++ filter t ys
+pub filter-append : {A : Type 0} (t : A → Bool) (xs ys : List A) → filter t (xs ++ ys) ≡ filter t xs ++ filter t ys
 filter-append t [] ys = refl
 filter-append {A} t (x ∷ xs) ys = go (t x) (filter-append t xs ys)
   where
@@ -69,7 +69,7 @@ none_left : {A : Type 0} (xs : List A) → length xs ≤ 0 → xs ≡ []
 none_left [] l = refl
 none_left (x ∷ xs) l = absurd (omega arith)
 
-in_either : {A : Type 0} (x : A) (xs ys : List A) → In x (xs ++ ys) → In x xs ⊎ In x ys
+pub in_either : {A : Type 0} (x : A) (xs ys : List A) → In x (xs ++ ys) → In x xs ⊎ In x ys
 in_either x [] ys i = inr i
 in_either {A} x (z ∷ xs) ys (inl e) = inl (inl e)
 in_either {A} x (z ∷ xs) ys (inr i) = elim (in_either x xs ys i) as (λ _. In x (z ∷ xs) ⊎ In x ys) [ inl j ↦ inl (inr j) | inr j ↦ inr j ]

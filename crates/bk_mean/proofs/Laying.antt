@@ -1,0 +1,428 @@
+-- A block's values in a list that was filled from its end, each time with the one that is due last, do what the block does.
+use Rattle.std.proofs.Common.{◌≡◌, ℕ, zero, suc, ◌+◌, ◌<◌, ◌≤◌, refl, ap, sym, ◌∙◌, subst, arith, ◌⊎◌, inl, inr, List, [], ◌∷◌, ◌++◌, length, map, Option, Some, None, Bool, true, false, cond, ◌||◌, ◌&&◌, append_assoc, length-append, append-nil}
+use Rattle.std.specs.Prelude.{filter, slice_get}
+use Rattle.std.specs.List.{Contains}
+use Rattle.std.proofs.lemmas.Bool.{cases_lt, cases_order, or_cases, or_left, or_right, and_parts}
+use Rattle.std.proofs.lemmas.List.{length-map}
+use Rattle.std.proofs.lemmas.Option.{slice_get_within}
+use Rattle.bk_ops.specs.declared.types.Target.{Target}
+use Rattle.bk_ops.specs.declared.family.Family.TheVariants as op
+use Rattle.bk_ops.specs.declared.family.ArmOp.TheVariants as arm
+use Rattle.bk_ops.specs.declared.family.RvOp.TheVariants as rv
+use Rattle.bk_func.specs.Records.{ValueRecord, BlockRecord, FuncRecord}
+use Rattle.bk_func.specs.Numbers.{Origin, checked, loaded, origin_of, state_of, room}
+use Rattle.bk_func.specs.Effects.{has_effect, is_check, is_load, is_at, checks_at, loads_at, order}
+use Rattle.bk_func.specs.Meaning.{Outcome, fault_at, fault_by, first_fault, or_else}
+use Rattle.bk_func.specs.Form.Text.{HasBlock, HasValue, IsPhi}
+use Rattle.bk_func.specs.Form.Before.{IsTakenBy, Needs}
+use Rattle.bk_func.specs.Form.Signatures.{Setting}
+use Rattle.bk_func.proofs.Faults.{In, in-filter, filter-in}
+use Rattle.bk_func.proofs.Flat.{Still, Laid, last, more}
+use Rattle.bk_func.proofs.Greedy.{Greedy, none, put}
+use Rattle.bk_mean.proofs.Named.{Once, to_in, to_contains, got_in, in_left, in_right}
+use Rattle.bk_mean.proofs.Roles.{checks, loads}
+use Rattle.bk_mean.proofs.Typed.{no_effect}
+use Rattle.bk_mean.proofs.Ranks.{rank, rank_below_room, needs_onward}
+use Rattle.bk_mean.proofs.Needed.{need, needs_true, true_needs}
+use Rattle.bk_mean.proofs.States.{named_state, needs_named}
+use Rattle.bk_mean.proofs.Chains.{needs_apart}
+use Rattle.bk_mean.proofs.Follows.{Follows, follows_needs, numbers_of, at_some, some_at}
+use Rattle.bk_mean.proofs.Turns.{filter-append, in_either, order_greedy}
+use Rattle.bk_mean.proofs.Levels.{asks, acts, ask_no_phi, ask_acts, effect_acts, Timed, Keys, chain_at, state_value, at_number, one_place, level_at, effect_at, act_state, low_needs_not, IsClosedList, IsFree, needed_in, taker_in, Top, top}
+
+-- due no later, and due sooner
+abbrev pub AtMost : (ValueRecord → ℕ) → (ValueRecord → ℕ) → ValueRecord → ValueRecord → Type 0
+AtMost level class y v = (level y < level v) ⊎ ((level y ≡ level v) × (class y ≤ class v))
+
+abbrev pub Sooner : (ValueRecord → ℕ) → (ValueRecord → ℕ) → ValueRecord → ValueRecord → Type 0
+Sooner level class y v = (level y < level v) ⊎ ((level y ≡ level v) × (class y < class v))
+
+-- a list filled from its end: each time with a value that nothing left takes, and of those the one that is due last; of values
+-- that are due together the last in the list
+pub data Filled (b : BlockRecord) (level class : ValueRecord → ℕ) : List ValueRecord → List ValueRecord → Type 0 where
+  empty : Filled b level class [] []
+  fill : (xs ys zs : List ValueRecord) (v : ValueRecord) → IsFree b (xs ++ v ∷ ys) v →
+      ((y : ValueRecord) → In y xs → IsFree b (xs ++ v ∷ ys) y → AtMost level class y v) → ((y : ValueRecord) → In y ys → IsFree b (xs ++ v ∷ ys) y → Sooner level class y v) →
+      Filled b level class (xs ++ ys) zs → Filled b level class (xs ++ v ∷ ys) (zs ++ v ∷ [])
+
+-- lists with an element more
+
+with_mid : {A : Type 0} (x v : A) (xs ys : List A) → In x (xs ++ ys) → In x (xs ++ v ∷ ys)
+with_mid x v xs ys i = elim (in_either x xs ys i) as (λ _. In x (xs ++ v ∷ ys)) [ inl j ↦ in_left x xs (v ∷ ys) j | inr j ↦ in_right x xs (v ∷ ys) (inr j) ]
+
+mid : {A : Type 0} (v : A) (xs ys : List A) → In v (xs ++ v ∷ ys)
+mid v xs ys = in_right v xs (v ∷ ys) (inl refl)
+
+-- where an element of such a list stands
+abbrev Stands : {A : Type 0} → A → A → List A → List A → Type 0
+Stands x v xs ys = In x xs ⊎ (v ≡ x) ⊎ In x ys
+
+stands : {A : Type 0} (x v : A) (xs ys : List A) → In x (xs ++ v ∷ ys) → Stands x v xs ys
+stands x v xs ys i = elim (in_either x xs (v ∷ ys) i) as (λ _. Stands x v xs ys) [
+  | inl j ↦ inl j
+  | inr j ↦ (elim j as (λ _. Stands x v xs ys) [ inl e ↦ inr (inl e) | inr k ↦ inr (inr k) ])
+]
+
+or_mid : {A : Type 0} (x v : A) (xs ys : List A) → In x (xs ++ v ∷ ys) → In x (xs ++ ys) ⊎ (v ≡ x)
+or_mid x v xs ys i = elim (stands x v xs ys i) as (λ _. In x (xs ++ ys) ⊎ (v ≡ x)) [
+  | inl j ↦ inl (in_left x xs ys j)
+  | inr q ↦ (elim q as (λ _. In x (xs ++ ys) ⊎ (v ≡ x)) [ inl e ↦ inr e | inr j ↦ inl (in_right x xs ys j) ])
+]
+
+filter_skip : {A : Type 0} (t : A → Bool) (v : A) (xs ys : List A) → t v ≡ false → filter t (xs ++ v ∷ ys) ≡ filter t (xs ++ ys)
+filter_skip t v xs ys e = filter-append t xs (v ∷ ys) ∙ ap (λ c. filter t xs ++ cond c (v ∷ filter t ys) (filter t ys)) e ∙ sym (filter-append t xs ys)
+
+filter_keep : {A : Type 0} (t : A → Bool) (v : A) (xs ys : List A) → t v ≡ true → filter t (xs ++ v ∷ ys) ≡ filter t xs ++ v ∷ filter t ys
+filter_keep t v xs ys e = filter-append t xs (v ∷ ys) ∙ ap (λ c. filter t xs ++ cond c (v ∷ filter t ys) (filter t ys)) e
+
+none_pass : {A : Type 0} (t : A → Bool) (xs : List A) → ((x : A) → In x xs → t x ≡ true → ⊥) → filter t xs ≡ []
+none_pass t [] h = refl
+none_pass {A} t (x ∷ xs) h = go (t x) refl (none_pass t xs (λ y i. h y (inr i)))
+  where
+    go : (c : Bool) → t x ≡ c → filter t xs ≡ [] → cond c (x ∷ filter t xs) (filter t xs) ≡ []
+    go true e k = absurd (h x (inl refl) e)
+    go false e k = k
+
+once_apart : (v : ValueRecord) (xs ys : List ValueRecord) → Once (xs ++ v ∷ ys) → ¬ In v (xs ++ ys)
+once_apart v [] ys o i = o.0 i
+once_apart v (x ∷ xs) ys o (inl e) = o.0 (let P : ValueRecord → Type 0 = λ y. In y (xs ++ v ∷ ys) in subst P (sym e) (mid v xs ys))
+once_apart v (x ∷ xs) ys o (inr i) = once_apart v xs ys o.1 i
+
+once_without : (v : ValueRecord) (xs ys : List ValueRecord) → Once (xs ++ v ∷ ys) → Once (xs ++ ys)
+once_without v [] ys o = o.1
+once_without v (x ∷ xs) ys o = (λ i. o.0 (with_mid x v xs ys i), once_without v xs ys o.1)
+
+got_left : {A : Type 0} (xs ys : List A) (k : ℕ) (x : A) → slice_get xs k ≡ Some x → slice_get (xs ++ ys) k ≡ Some x
+got_left [] ys k x e = absurd cc
+got_left (y ∷ xs) ys zero x e = e
+got_left (y ∷ xs) ys (suc k) x e = got_left xs ys k x e
+
+got_right : {A : Type 0} (xs ys : List A) (x : A) → slice_get (xs ++ ys) (length xs) ≡ Some x → (zs : List A) × (ys ≡ x ∷ zs)
+got_right [] [] x e = absurd cc
+got_right [] (y ∷ ys) x e = (ys, (let d : y ≡ x = cc in ap (λ z. z ∷ ys) d))
+got_right (z ∷ xs) ys x e = got_right xs ys x e
+
+head_right : {A : Type 0} (xs : List A) (x : A) (zs : List A) → slice_get (xs ++ x ∷ zs) (length xs) ≡ Some x
+head_right [] x zs = refl
+head_right (y ∷ xs) x zs = head_right xs x zs
+
+in_place : {A : Type 0} (xs : List A) (x : A) → In x xs → (k : ℕ) × (slice_get xs k ≡ Some x) × (k < length xs)
+in_place [] x i = elim i [ ]
+in_place (y ∷ ys) x (inl e) = (0, ap Some e, omega arith)
+in_place (y ∷ ys) x (inr i) = let r = in_place ys x i in (suc r.0, r.1, omega (arith, r.2))
+
+got_under : {A : Type 0} (xs ys : List A) (k : ℕ) (x : A) → slice_get (xs ++ ys) k ≡ Some x → k < length xs → In x xs
+got_under [] ys k x e l = absurd (omega (arith, l))
+got_under (y ∷ xs) ys zero x e l = let d : y ≡ x = cc in inl d
+got_under (y ∷ xs) ys (suc k) x e l = inr (got_under xs ys k x e (omega (arith, l)))
+
+-- tests
+
+abbrev at_check : FuncRecord → ℕ → ValueRecord → Bool
+at_check f n v = is_check (origin_of v.op.family) && is_at (state_of f v) n
+
+abbrev at_load : FuncRecord → ℕ → ValueRecord → Bool
+at_load f n v = is_load (origin_of v.op.family) && is_at (state_of f v) n
+
+checks_act : (v : ValueRecord) → (v.op.family ≡ op.NilCheck) ⊎ (v.op.family ≡ op.Arm arm.Nil) ⊎ (v.op.family ≡ op.Rv rv.Nil) → has_effect v ≡ true → ⊥
+checks_act v (inl d) e = no_effect v op.NilCheck refl e d
+checks_act v (inr (inl d)) e = no_effect v (op.Arm arm.Nil) refl e d
+checks_act v (inr (inr d)) e = no_effect v (op.Rv rv.Nil) refl e d
+
+loads_act : (v : ValueRecord) → (v.op.family ≡ op.Load) ⊎ (v.op.family ≡ op.Arm arm.Load) ⊎ (v.op.family ≡ op.Rv rv.Load) → has_effect v ≡ true → ⊥
+loads_act v (inl d) e = no_effect v op.Load refl e d
+loads_act v (inr (inl d)) e = no_effect v (op.Arm arm.Load) refl e d
+loads_act v (inr (inr d)) e = no_effect v (op.Rv rv.Load) refl e d
+
+effect_asks_not : (v : ValueRecord) → has_effect v ≡ true → asks v ≡ false
+effect_asks_not v e = go (asks v) refl
+  where
+    by : (is_check (origin_of v.op.family) ≡ true) ⊎ (is_load (origin_of v.op.family) ≡ true) → ⊥
+    by (inl q) = checks_act v (checks v.op.family q) e
+    by (inr q) = loads_act v (loads v.op.family q) e
+
+    go : (t : Bool) → asks v ≡ t → t ≡ false
+    go true q = absurd (by (or_cases (is_check (origin_of v.op.family)) (is_load (origin_of v.op.family)) q))
+    go false q = refl
+
+check_not_load : (v : ValueRecord) → is_check (origin_of v.op.family) ≡ true → is_load (origin_of v.op.family) ≡ false
+check_not_load v e = go (origin_of v.op.family) e
+  where
+    go : (o : Origin) → is_check o ≡ true → is_load o ≡ false
+    go checked e = refl
+    go _ e = absurd cc
+
+load_not_check : (v : ValueRecord) → is_load (origin_of v.op.family) ≡ true → is_check (origin_of v.op.family) ≡ false
+load_not_check v e = go (origin_of v.op.family) e
+  where
+    go : (o : Origin) → is_load o ≡ true → is_check o ≡ false
+    go loaded e = refl
+    go _ e = absurd cc
+
+asks_not : (v : ValueRecord) → is_check (origin_of v.op.family) ≡ false → is_load (origin_of v.op.family) ≡ false → asks v ≡ false
+asks_not v c l = rw (c, l) refl
+
+-- the list of a block's values that are left, while it is filled
+record Left (f : FuncRecord) (b : BlockRecord) (level : ValueRecord → ℕ) (xs : List ValueRecord) : Type 0 where
+  within : (v : ValueRecord) → In v xs → In v b.values
+  closed : IsClosedList b xs
+  once : Once xs
+  levels : (e u : ValueRecord) → In e xs → has_effect e ≡ true → In u b.values → acts u ≡ true → level u ≤ level e → In u xs
+  checks_left : (e : ValueRecord) (n : ℕ) → In e xs → Follows f b n e → filter (at_check f n) xs ≡ checks_at f b n
+  loads_left : (e : ValueRecord) (n : ℕ) → In e xs → Follows f b n e → filter (at_load f n) xs ≡ loads_at f b n
+
+-- memory values, each behind the checks and loads of its state
+data Behind (f : FuncRecord) (b : BlockRecord) (m : ℕ) : List ValueRecord → List ValueRecord → ℕ → Type 0 where
+  start : Behind f b m [] [] m
+  on : (es zs seg : List ValueRecord) (n : ℕ) (v : ValueRecord) → Behind f b m es zs n → Still seg → ((t : Target) (g : ℕ → ℕ) (d : List ℕ) → first_fault t g d (order f b n) ≡ first_fault t g d seg) →
+      has_effect v ≡ true → Behind f b m (es ++ v ∷ []) (zs ++ (seg ++ v ∷ [])) v.id
+
+finish : (f : FuncRecord) (b : BlockRecord) (m : ℕ) (es zs : List ValueRecord) (n : ℕ) → Behind f b m es zs n → (rest ls : List ValueRecord) → Laid f b n rest ls → Laid f b m (es ++ rest) (zs ++ ls)
+finish f b m _ _ _ start rest ls laid = laid
+finish f b m _ _ _ (on es zs seg n v q still alike e) rest ls laid =
+    let r = finish f b m es zs n q (v ∷ rest) (seg ++ v ∷ ls) (more n seg rest ls v still alike e laid) in
+    let P : List ValueRecord → Type 0 = λ xs. Laid f b m xs ((zs ++ (seg ++ v ∷ [])) ++ ls) in
+    let R : List ValueRecord → Type 0 = λ xs. Laid f b m (es ++ v ∷ rest) xs in
+    subst P (sym (append_assoc es (v ∷ []) rest))
+    (subst R (ap (λ (xs : List ValueRecord). zs ++ xs) (sym (append_assoc seg (v ∷ []) ls)) ∙ sym (append_assoc zs (seg ++ v ∷ []) ls)) r)
+
+still_more : (xs : List ValueRecord) (v : ValueRecord) → Still xs → has_effect v ≡ false → Still (xs ++ v ∷ [])
+still_more [] v h e = (e, tt)
+still_more (x ∷ xs) v h e = (h.0, still_more xs v h.1 e)
+
+-- values that are neither checks nor loads do not fault
+no_fault : (t : Target) (g : ℕ → ℕ) (d : List ℕ) (v : ValueRecord) → asks v ≡ false → fault_at t g d v ≡ None
+no_fault t g d v e = go (origin_of v.op.family) e
+  where
+    go : (o : Origin) → (is_check o || is_load o) ≡ false → fault_by o t g d v ≡ None
+    go checked e = absurd cc
+    go loaded e = absurd cc
+    go _ e = refl
+
+asked_faults : (t : Target) (g : ℕ → ℕ) (d : List ℕ) (xs : List ValueRecord) → first_fault t g d (filter asks xs) ≡ first_fault t g d xs
+asked_faults t g d [] = refl
+asked_faults t g d (x ∷ xs) = go (asks x) refl (asked_faults t g d xs)
+  where
+    go : (u : Bool) → asks x ≡ u → first_fault t g d (filter asks xs) ≡ first_fault t g d xs →
+        first_fault t g d (cond u (x ∷ filter asks xs) (filter asks xs)) ≡ or_else (fault_at t g d x) (first_fault t g d xs)
+    go true e k = ap (or_else (fault_at t g d x)) k
+    go false e k = k ∙ ap (λ o. or_else o (first_fault t g d xs)) (sym (no_fault t g d x e))
+
+-- the checks and loads of a state that are left
+abbrev left_at : FuncRecord → ℕ → List ValueRecord → List ValueRecord
+left_at f n xs = filter (at_check f n) xs ++ filter (at_load f n) xs
+
+-- what was filled before a value lies in order as far as it goes
+record Part (f : FuncRecord) (b : BlockRecord) (m : ℕ) (vs xs zs : List ValueRecord) : Type 0 where
+  es : List ValueRecord
+  rest : List ValueRecord
+  pre : List ValueRecord
+  seg : List ValueRecord
+  state : ℕ
+  all : vs ≡ es ++ rest
+  parts : zs ≡ pre ++ seg
+  behind : Behind f b m es pre state
+  still : Still seg
+  place : slice_get (m ∷ numbers_of vs) (length es) ≡ Some state
+  present : (e : ValueRecord) → In e xs → has_effect e ≡ true → In e es
+  there : (e : ValueRecord) → In e es → In e xs
+  greedy : Greedy (need f b) (left_at f state xs) (filter asks seg)
+
+module _ (s : Setting) (f : FuncRecord) (b : BlockRecord) (m : ℕ) (vs : List ValueRecord) (level class : ValueRecord → ℕ) (c : Timed s f b m vs level class) where
+  here : (v : ValueRecord) → In v b.values → HasValue f b v
+  here v i = (c.block, to_contains v b.values i)
+
+  effect_low : (e : ValueRecord) → In e b.values → has_effect e ≡ true → level e < length vs
+  effect_low e i q = slice_get_within vs (level e) e (effect_at s f b m vs level class c e (here e i) q)
+
+  act_low : (v : ValueRecord) → In v b.values → acts v ≡ true → level v ≤ length vs
+  act_low v i q =
+      let n = act_state s f b m vs level class c v (here v i) q in
+      let l = slice_get_within (m ∷ numbers_of vs) (level v) n.0 (c.keys.at v (here v i) q n.0 n.1) in
+      let k = length-map vs (λ (x : ValueRecord). x.id) in
+      omega (arith, l, k)
+
+  one_effect : (e v : ValueRecord) → In e b.values → In v b.values → has_effect e ≡ true → has_effect v ≡ true → level e ≡ level v → e ≡ v
+  one_effect e v i j p q l =
+      let a = effect_at s f b m vs level class c e (here e i) p in
+      let d = effect_at s f b m vs level class c v (here v j) q in
+      let P : ℕ → Type 0 = λ k. slice_get vs k ≡ Some v in
+      let w = sym a ∙ subst P (sym l) d in
+      cc
+
+  ask_class : (v : ValueRecord) → In v b.values → asks v ≡ true → class v ≤ 1
+  ask_class v i q = go (or_cases (is_check (origin_of v.op.family)) (is_load (origin_of v.op.family)) q)
+    where
+      go : (is_check (origin_of v.op.family) ≡ true) ⊎ (is_load (origin_of v.op.family) ≡ true) → class v ≤ 1
+      go (inl e) = let k = c.keys.check v (here v i) e in omega (arith, k)
+      go (inr e) = let k = c.keys.load v (here v i) e in omega (arith, k)
+
+  -- the choice of a value from those left
+  record Chosen (xs ys : List ValueRecord) (v : ValueRecord) : Type 0 where
+    free : IsFree b (xs ++ v ∷ ys) v
+    front : (y : ValueRecord) → In y xs → IsFree b (xs ++ v ∷ ys) y → AtMost level class y v
+    back : (y : ValueRecord) → In y ys → IsFree b (xs ++ v ∷ ys) y → Sooner level class y v
+
+  at_most : (xs ys : List ValueRecord) (v : ValueRecord) → Chosen xs ys v → (y : ValueRecord) → In y (xs ++ ys) → IsFree b (xs ++ v ∷ ys) y → AtMost level class y v
+  at_most xs ys v h y i free = go (in_either y xs ys i)
+    where
+      weaker : Sooner level class y v → AtMost level class y v
+      weaker (inl l) = inl l
+      weaker (inr q) = inr (q.0, omega (arith, q.1))
+
+      go : In y xs ⊎ In y ys → AtMost level class y v
+      go (inl j) = h.front y j free
+      go (inr j) = weaker (h.back y j free)
+
+  -- no value is chosen before a memory value that is due no sooner
+  no_early : (xs ys : List ValueRecord) (v : ValueRecord) → Left f b level (xs ++ v ∷ ys) → Chosen xs ys v → acts v ≡ true → (e : ValueRecord) → In e (xs ++ ys) → has_effect e ≡ true → level v ≤ level e → ⊥
+  no_early xs ys v left h a e i q l = go (top s f c.sound b c.reached c.block (xs ++ v ∷ ys) left.within e (with_mid e v xs ys i))
+    where
+      ie : In e b.values
+      ie = left.within e (with_mid e v xs ys i)
+
+      iv : In v b.values
+      iv = left.within v (mid v xs ys)
+
+      apart : v ≡ e → ⊥
+      apart d = once_apart v xs ys left.once (let P : ValueRecord → Type 0 = λ x. In x (xs ++ ys) in subst P (sym d) i)
+
+      -- a value that is due no later than the chosen one, and needs the memory value
+      low : (w : ValueRecord) → In w b.values → Needs b w e → level w ≤ level v → ⊥
+      low w iw n lw = by (acts w) refl
+        where
+          by : (t : Bool) → acts w ≡ t → ⊥
+          by true t = low_needs_not s f b m vs level class c w (here w iw) t (level e) e (effect_at s f b m vs level class c e (here e ie) q) (omega (arith, l, lw)) n
+          by false t = let x = c.keys.anytime w (here w iw) t in let y = effect_low e ie q in absurd (omega (arith, x, y, l, lw))
+
+      itself : IsFree b (xs ++ v ∷ ys) e → AtMost level class e v → ⊥
+      itself free (inl x) = absurd (omega (arith, x, l))
+      itself free (inr (x, y)) = by (or_cases (has_effect v) (asks v) a)
+        where
+          by : (has_effect v ≡ true) ⊎ (asks v ≡ true) → ⊥
+          by (inl p) = apart (one_effect v e iv ie p q (sym x))
+          by (inr p) = let k = c.keys.effect e (here e ie) q in let z = ask_class v iv p in absurd (omega (arith, y, k, z))
+
+      lower : (w : ValueRecord) → AtMost level class w v → level w ≤ level v
+      lower w (inl x) = omega (arith, x)
+      lower w (inr x) = omega (arith, x.0)
+
+      go : Top b (xs ++ v ∷ ys) e → ⊥
+      go t = elim t.way as (λ _. ⊥) [
+        | inl d ↦ (let P : ValueRecord → Type 0 = λ x. IsFree b (xs ++ v ∷ ys) x in let free = subst P d t.free in itself free (at_most xs ys v h e i free))
+        | inr n ↦ (elim (or_mid t.value v xs ys t.stands) as (λ _. ⊥) [
+            | inl j ↦ low t.value (left.within t.value t.stands) n (lower t.value (at_most xs ys v h t.value j t.free))
+            | inr d ↦ low v iv (let P : ValueRecord → Type 0 = λ x. Needs b x e in subst P (sym d) n) (omega arith)
+        ])
+      ]
+
+  -- two values that are done at one state are due together
+  same_level : (v u : ValueRecord) → In v b.values → In u b.values → acts v ≡ true → acts u ≡ true → (n : ℕ) → state_of f v ≡ Some n → state_of f u ≡ Some n → level v ≡ level u
+  same_level v u i j p q n a d = one_place s f c.sound b c.reached m vs c.chain (level v) (level u) n (c.keys.at v (here v i) p n a) (c.keys.at u (here u j) q n d)
+
+  test_false : (t : Bool) → (t ≡ true → ⊥) → t ≡ false
+  test_false true h = absurd (h refl)
+  test_false false h = refl
+
+  check_asks : (n : ℕ) (v : ValueRecord) → at_check f n v ≡ true → (asks v ≡ true) × (state_of f v ≡ Some n)
+  check_asks n v e =
+      let q = and_parts (is_check (origin_of v.op.family)) (is_at (state_of f v) n) e in
+      (or_left (is_check (origin_of v.op.family)) (is_load (origin_of v.op.family)) q.0, at_some (state_of f v) n q.1)
+
+  load_asks : (n : ℕ) (v : ValueRecord) → at_load f n v ≡ true → (asks v ≡ true) × (state_of f v ≡ Some n)
+  load_asks n v e =
+      let q = and_parts (is_load (origin_of v.op.family)) (is_at (state_of f v) n) e in
+      (or_right (is_check (origin_of v.op.family)) (is_load (origin_of v.op.family)) q.0, at_some (state_of f v) n q.1)
+
+  left_more : (xs ys : List ValueRecord) (v : ValueRecord) → Left f b level (xs ++ v ∷ ys) → Chosen xs ys v → Left f b level (xs ++ ys)
+  left_more xs ys v left h = record {
+    within = λ x i. left.within x (with_mid x v xs ys i);
+    closed = λ x u i t. kept x u i t (or_mid u v xs ys (left.closed x u (with_mid x v xs ys i) t));
+    once = once_without v xs ys left.once;
+    levels = λ e u i q j a l. due e u i q a l (or_mid u v xs ys (left.levels e u (with_mid e v xs ys i) q j a l));
+    checks_left = λ e n i t. sym (filter_skip (at_check f n) v xs ys (test_false (at_check f n v) (λ q. early e n i t (check_asks n v q)))) ∙ left.checks_left e n (with_mid e v xs ys i) t;
+    loads_left = λ e n i t. sym (filter_skip (at_load f n) v xs ys (test_false (at_load f n v) (λ q. early e n i t (load_asks n v q)))) ∙ left.loads_left e n (with_mid e v xs ys i) t;
+  }
+    where
+      kept : (x u : ValueRecord) → In x (xs ++ ys) → IsTakenBy b u x → In u (xs ++ ys) ⊎ (v ≡ u) → In u (xs ++ ys)
+      kept x u i t (inl j) = j
+      kept x u i t (inr d) = absurd (h.free x (with_mid x v xs ys i) (let P : ValueRecord → Type 0 = λ y. IsTakenBy b y x in subst P (sym d) t))
+
+      due : (e u : ValueRecord) → In e (xs ++ ys) → has_effect e ≡ true → acts u ≡ true → level u ≤ level e → In u (xs ++ ys) ⊎ (v ≡ u) → In u (xs ++ ys)
+      due e u i q a l (inl j) = j
+      due e u i q a l (inr d) =
+          let P : ValueRecord → Type 0 = λ y. acts y ≡ true in
+          let k = ap level d in
+          absurd (no_early xs ys v left h (subst P (sym d) a) e i q (omega (arith, k, l)))
+
+      early : (e : ValueRecord) (n : ℕ) → In e (xs ++ ys) → Follows f b n e → (asks v ≡ true) × (state_of f v ≡ Some n) → ⊥
+      early e n i t (a, d) =
+          let k = same_level v e (left.within v (mid v xs ys)) (left.within e (with_mid e v xs ys i)) (ask_acts v a) (effect_acts e t.1) n d t.2 in
+          no_early xs ys v left h (ask_acts v a) e i t.1 (omega (arith, k))
+
+  -- the chosen value is due where the list that was filled ends
+  its_level : (xs ys zs : List ValueRecord) (v : ValueRecord) → Left f b level (xs ++ v ∷ ys) → Left f b level (xs ++ ys) → (p : Part f b m vs (xs ++ ys) zs) → acts v ≡ true → (n : ℕ) → state_of f v ≡ Some n →
+      level v ≡ length p.es
+  its_level xs ys zs v left after p a n t = go (cases_order (level v) (length p.es))
+    where
+      iv : In v b.values
+      iv = left.within v (mid v xs ys)
+
+      at : slice_get (m ∷ numbers_of vs) (level v) ≡ Some n
+      at = c.keys.at v (here v iv) a n t
+
+      no_phi : ¬ IsPhi v
+      no_phi q = by (or_cases (has_effect v) (asks v) a)
+        where
+          by : (has_effect v ≡ true) ⊎ (asks v ≡ true) → ⊥
+          by (inl e) = no_effect v op.Phi refl e q
+          by (inr e) = ask_no_phi v e q
+
+      -- it needs the memory value before it, which was filled
+      under : (k : ℕ) → level v ≡ suc k → suc k ≤ length p.es
+      under k e =
+          let P : ℕ → Type 0 = λ j. slice_get (m ∷ numbers_of vs) j ≡ Some n in
+          let w = state_value m vs k n (subst P e at) in
+          let tw = chain_at f b m vs c.chain k w.0 w.1 in
+          let names = named_state s f c.sound b v (here v iv) c.reached no_phi n t in
+          let needs = needs_named s f c.sound b c.reached v w.0 (here v iv) tw.2.0 no_phi n names w.2 in
+          found w.0 w.1 tw.2.1 (or_mid w.0 v xs ys (needed_in b (xs ++ v ∷ ys) left.closed v w.0 (mid v xs ys) needs)) needs
+        where
+          found : (w : ValueRecord) → slice_get vs k ≡ Some w → has_effect w ≡ true → In w (xs ++ ys) ⊎ (v ≡ w) → Needs b v w → suc k ≤ length p.es
+          found w g q (inr d) needs = absurd (needs_apart s f c.sound b v (here v iv) (let P : ValueRecord → Type 0 = λ x. Needs b v x in subst P (sym d) needs))
+          found w g q (inl i) needs =
+              let j = in_place p.es w (p.present w i q) in
+              let P : List ValueRecord → Type 0 = λ ws. slice_get ws j.0 ≡ Some w in
+              let x = level_at s f b m vs level class c j.0 w (subst P (sym p.all) (got_left p.es p.rest j.0 w j.1)) in
+              let y = level_at s f b m vs level class c k w g in
+              omega (arith, x, y, j.2)
+
+      low : (k : ℕ) → level v ≡ k → k ≤ length p.es
+      low zero e = omega arith
+      low (suc k) e = under k e
+
+      high : level v < length p.es → ⊥
+      high l =
+          let ue = took p.es (level v) l in
+          let P : List ValueRecord → Type 0 = λ ws. slice_get ws (level v) ≡ Some ue.0 in
+          let g : slice_get vs (level v) ≡ Some ue.0 = subst P (sym p.all) (got_left p.es p.rest (level v) ue.0 ue.1) in
+          let q = chain_at f b m vs c.chain (level v) ue.0 g in
+          let x = level_at s f b m vs level class c (level v) ue.0 g in
+          once_apart v xs ys left.once (after.levels ue.0 v (p.there ue.0 (got_in p.es (level v) ue.0 ue.1)) q.2.1 iv a (omega (arith, x)))
+        where
+          took : {A : Type 0} (ws : List A) (k : ℕ) → k < length ws → (w : A) × (slice_get ws k ≡ Some w)
+          took [] k l = absurd (omega (arith, l))
+          took (w ∷ ws) zero l = (w, refl)
+          took (w ∷ ws) (suc k) l = took ws k (omega (arith, l))
+
+      go : (level v ≡ length p.es) ⊎ ((level v < length p.es) ⊎ (length p.es < level v)) → level v ≡ length p.es
+      go (inl e) = e
+      go (inr (inl l)) = absurd (high l)
+      go (inr (inr l)) = let k = low (level v) refl in absurd (omega (arith, l, k))
+
+  its_state : (xs ys zs : List ValueRecord) (v : ValueRecord) → Left f b level (xs ++ v ∷ ys) → Left f b level (xs ++ ys) → (p : Part f b m vs (xs ++ ys) zs) → acts v ≡ true → (n : ℕ) → state_of f v ≡ Some n → n ≡ p.state
+  its_state xs ys zs v left after p a n t =
+      let e = its_level xs ys zs v left after p a n t in
+      let P : ℕ → Type 0 = λ k. slice_get (m ∷ numbers_of vs) k ≡ Some n in
+      let d = sym (subst P e (c.keys.at v (here v (left.within v (mid v xs ys))) a n t)) ∙ p.place in
+      cc
