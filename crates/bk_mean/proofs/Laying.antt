@@ -426,3 +426,310 @@ module _ (s : Setting) (f : FuncRecord) (b : BlockRecord) (m : ℕ) (vs : List V
       let P : ℕ → Type 0 = λ k. slice_get (m ∷ numbers_of vs) k ≡ Some n in
       let d = sym (subst P e (c.keys.at v (here v (left.within v (mid v xs ys))) a n t)) ∙ p.place in
       cc
+
+  -- a value more
+
+  not_act : (t u : Bool) → (t || u) ≡ false → (t ≡ false) × (u ≡ false)
+  not_act true u e = absurd cc
+  not_act false u e = (refl, e)
+
+  end : (zs pre seg : List ValueRecord) (v : ValueRecord) → zs ≡ pre ++ seg → zs ++ v ∷ [] ≡ pre ++ (seg ++ v ∷ [])
+  end zs pre seg v e = ap (λ (xs : List ValueRecord). xs ++ v ∷ []) e ∙ append_assoc pre seg (v ∷ [])
+
+  same_left : (n : ℕ) (xs ys : List ValueRecord) (v : ValueRecord) → at_check f n v ≡ false → at_load f n v ≡ false → left_at f n (xs ++ v ∷ ys) ≡ left_at f n (xs ++ ys)
+  same_left n xs ys v p q =
+      ap (λ (zs : List ValueRecord). zs ++ filter (at_load f n) (xs ++ v ∷ ys)) (filter_skip (at_check f n) v xs ys p)
+      ∙ ap (λ (zs : List ValueRecord). filter (at_check f n) (xs ++ ys) ++ zs) (filter_skip (at_load f n) v xs ys q)
+
+  asks_end : (seg : List ValueRecord) (v : ValueRecord) → asks v ≡ false → filter asks (seg ++ v ∷ []) ≡ filter asks seg
+  asks_end seg v e = filter_skip asks v seg [] e ∙ ap (filter asks) (append-nil seg)
+
+  asks_more : (seg : List ValueRecord) (v : ValueRecord) → asks v ≡ true → filter asks (seg ++ v ∷ []) ≡ filter asks seg ++ v ∷ []
+  asks_more seg v e = filter_keep asks v seg [] e
+
+  no_test : (t u : Bool) → t ≡ false → (t && u) ≡ false
+  no_test true u e = absurd cc
+  no_test false u e = refl
+
+  neither : (n : ℕ) (v : ValueRecord) → asks v ≡ false → (at_check f n v ≡ false) × (at_load f n v ≡ false)
+  neither n v e =
+      let q = not_act (is_check (origin_of v.op.family)) (is_load (origin_of v.op.family)) e in
+      (no_test (is_check (origin_of v.op.family)) (is_at (state_of f v) n) q.0, no_test (is_load (origin_of v.op.family)) (is_at (state_of f v) n) q.1)
+
+  -- one that is done at any time
+  add_quiet : (xs ys zs : List ValueRecord) (v : ValueRecord) → acts v ≡ false → Part f b m vs (xs ++ ys) zs → Part f b m vs (xs ++ v ∷ ys) (zs ++ v ∷ [])
+  add_quiet xs ys zs v e p = record {
+    es = p.es;
+    rest = p.rest;
+    pre = p.pre;
+    seg = p.seg ++ v ∷ [];
+    state = p.state;
+    all = p.all;
+    parts = end zs p.pre p.seg v p.parts;
+    behind = p.behind;
+    still = still_more p.seg v p.still a.0;
+    place = p.place;
+    present = λ u i q. present u q (or_mid u v xs ys i);
+    there = λ u i. with_mid u v xs ys (p.there u i);
+    greedy = (let P : List ValueRecord → Type 0 = λ ws. Greedy (need f b) ws (filter asks (p.seg ++ v ∷ [])) in
+    let R : List ValueRecord → Type 0 = λ ws. Greedy (need f b) (left_at f p.state (xs ++ ys)) ws in
+    let k = neither p.state v a.1 in
+    subst P (sym (same_left p.state xs ys v k.0 k.1)) (subst R (sym (asks_end p.seg v a.1)) p.greedy));
+  }
+    where
+      a : (has_effect v ≡ false) × (asks v ≡ false)
+      a = not_act (has_effect v) (asks v) e
+
+      present : (u : ValueRecord) → has_effect u ≡ true → In u (xs ++ ys) ⊎ (v ≡ u) → In u p.es
+      present u q (inl j) = p.present u j q
+      present u q (inr d) = let k = ap has_effect d in let x = not_act (has_effect v) (asks v) e in absurd cc
+
+  -- a memory value
+  add_effect : (xs ys zs : List ValueRecord) (v : ValueRecord) → Left f b level (xs ++ v ∷ ys) → Left f b level (xs ++ ys) → Chosen xs ys v → has_effect v ≡ true → Part f b m vs (xs ++ ys) zs →
+      Part f b m vs (xs ++ v ∷ ys) (zs ++ v ∷ [])
+  add_effect xs ys zs v left after h e p = record {
+    es = p.es ++ v ∷ [];
+    rest = tail.0;
+    pre = p.pre ++ (p.seg ++ v ∷ []);
+    seg = [];
+    state = v.id;
+    all = p.all ∙ ap (λ (ws : List ValueRecord). p.es ++ ws) tail.1 ∙ sym (append_assoc p.es (v ∷ []) tail.0);
+    parts = end zs p.pre p.seg v p.parts ∙ sym (append-nil (p.pre ++ (p.seg ++ v ∷ [])));
+    behind = on p.es p.pre p.seg p.state v p.behind p.still alike e;
+    still = tt;
+    place = (let k = length-append p.es (v ∷ []) in let P : ℕ → Type 0 = λ j. slice_get (m ∷ numbers_of vs) j ≡ Some v.id in
+    let j : suc (length p.es) ≡ length (p.es ++ v ∷ []) = omega (arith, k) in subst P j (at_number vs (length p.es) v got));
+    present = λ u i q. present u q (or_mid u v xs ys i);
+    there = λ u i. elim (in_either u p.es (v ∷ []) i) as (λ _. In u (xs ++ v ∷ ys)) [
+      | inl j ↦ with_mid u v xs ys (p.there u j)
+      | inr j ↦ own u j
+    ];
+    greedy = (let P : List ValueRecord → Type 0 = λ ws. Greedy (need f b) ws [] in subst P (sym nothing) none);
+  }
+    where
+      iv : In v b.values
+      iv = left.within v (mid v xs ys)
+
+      state : (n : ℕ) × (state_of f v ≡ Some n)
+      state = act_state s f b m vs level class c v (here v iv) (effect_acts v e)
+
+      is_state : state.0 ≡ p.state
+      is_state = its_state xs ys zs v left after p (effect_acts v e) state.0 state.1
+
+      follows : Follows f b p.state v
+      follows = (here v iv, e, state.1 ∙ ap Some is_state)
+
+      got : slice_get vs (length p.es) ≡ Some v
+      got =
+          let k = its_level xs ys zs v left after p (effect_acts v e) state.0 state.1 in
+          let P : ℕ → Type 0 = λ j. slice_get vs j ≡ Some v in
+          subst P k (effect_at s f b m vs level class c v (here v iv) e)
+
+      tail : (ws : List ValueRecord) × (p.rest ≡ v ∷ ws)
+      tail = got_right p.es p.rest v (let P : List ValueRecord → Type 0 = λ ws. slice_get ws (length p.es) ≡ Some v in subst P p.all got)
+
+      quiet : (at_check f p.state v ≡ false) × (at_load f p.state v ≡ false)
+      quiet = neither p.state v (effect_asks_not v e)
+
+      whole : left_at f p.state (xs ++ ys) ≡ checks_at f b p.state ++ loads_at f b p.state
+      whole =
+          sym (same_left p.state xs ys v quiet.0 quiet.1)
+          ∙ ap (λ (ws : List ValueRecord). ws ++ filter (at_load f p.state) (xs ++ v ∷ ys)) (left.checks_left v p.state (mid v xs ys) follows)
+          ∙ ap (λ (ws : List ValueRecord). checks_at f b p.state ++ ws) (left.loads_left v p.state (mid v xs ys) follows)
+
+      alike : (t : Target) (g : ℕ → ℕ) (d : List ℕ) → first_fault t g d (order f b p.state) ≡ first_fault t g d p.seg
+      alike t g d =
+          let P : List ValueRecord → Type 0 = λ ws. Greedy (need f b) ws (filter asks p.seg) in
+          order_greedy s f c.sound b c.reached c.block p.state (filter asks p.seg) (subst P whole p.greedy) t g d ∙ asked_faults t g d p.seg
+
+      own : (u : ValueRecord) → In u (v ∷ []) → In u (xs ++ v ∷ ys)
+      own u (inl d) = (let P : ValueRecord → Type 0 = λ x. In x (xs ++ v ∷ ys) in subst P d (mid v xs ys))
+      own u (inr j) = elim j [ ]
+
+      present : (u : ValueRecord) → has_effect u ≡ true → In u (xs ++ ys) ⊎ (v ≡ u) → In u (p.es ++ v ∷ [])
+      present u q (inl j) = in_left u p.es (v ∷ []) (p.present u j q)
+      present u q (inr d) = in_right u p.es (v ∷ []) (inl d)
+
+      -- what names the new state would take the value, which is free
+      unnamed : (u : ValueRecord) → In u (xs ++ v ∷ ys) → (asks u ≡ true) × (state_of f u ≡ Some v.id) → ⊥
+      unnamed u i (a, d) =
+          let iu = here u (left.within u i) in
+          let names = named_state s f c.sound b u iu c.reached (ask_no_phi u a) v.id d in
+          let needs = needs_named s f c.sound b c.reached u v iu (here v iv) (ask_no_phi u a) v.id names refl in
+          let t = taker_in b (xs ++ v ∷ ys) left.closed u v i needs in
+          h.free t.0 t.1 t.2
+
+      nothing : left_at f v.id (xs ++ v ∷ ys) ≡ []
+      nothing =
+          ap (λ (ws : List ValueRecord). ws ++ filter (at_load f v.id) (xs ++ v ∷ ys)) (none_pass (at_check f v.id) (xs ++ v ∷ ys) (λ u i q. unnamed u i (check_asks v.id u q)))
+          ∙ none_pass (at_load f v.id) (xs ++ v ∷ ys) (λ u i q. unnamed u i (load_asks v.id u q))
+
+  -- a check or a load: the others that are left stand before it or are needed
+  record Among (n : ℕ) (xs ys : List ValueRecord) (v : ValueRecord) (front back : List ValueRecord) : Type 0 where
+    whole : left_at f n (xs ++ v ∷ ys) ≡ front ++ v ∷ back
+    without : left_at f n (xs ++ ys) ≡ front ++ back
+    left : (u : ValueRecord) → In u (front ++ v ∷ back) → In u (xs ++ v ∷ ys)
+    later : (u : ValueRecord) → In u back → (asks u ≡ true) × (state_of f u ≡ Some n) × ((In u ys × (class u ≡ class v)) ⊎ (class v < class u))
+    sooner : (u : ValueRecord) → In u (xs ++ ys) → asks u ≡ true → state_of f u ≡ Some n → (In u xs × (class u ≤ class v)) ⊎ (class u < class v) → In u front
+
+  add_ask : (xs ys zs : List ValueRecord) (v : ValueRecord) → Left f b level (xs ++ v ∷ ys) → Left f b level (xs ++ ys) → Chosen xs ys v → asks v ≡ true → has_effect v ≡ false → (p : Part f b m vs (xs ++ ys) zs) →
+      state_of f v ≡ Some p.state → (front back : List ValueRecord) → Among p.state xs ys v front back → Part f b m vs (xs ++ v ∷ ys) (zs ++ v ∷ [])
+  add_ask xs ys zs v left after h a e p t front back among = record {
+    es = p.es;
+    rest = p.rest;
+    pre = p.pre;
+    seg = p.seg ++ v ∷ [];
+    state = p.state;
+    all = p.all;
+    parts = end zs p.pre p.seg v p.parts;
+    behind = p.behind;
+    still = still_more p.seg v p.still e;
+    place = p.place;
+    present = λ u i q. present u q (or_mid u v xs ys i);
+    there = λ u i. with_mid u v xs ys (p.there u i);
+    greedy = (let P : List ValueRecord → Type 0 = λ ws. Greedy (need f b) ws (filter asks (p.seg ++ v ∷ [])) in
+    let R : List ValueRecord → Type 0 = λ ws. Greedy (need f b) (front ++ v ∷ back) ws in
+    let Q : List ValueRecord → Type 0 = λ ws. Greedy (need f b) ws (filter asks p.seg) in
+    subst P (sym among.whole) (subst R (sym (asks_more p.seg v a)) (put front back (filter asks p.seg) v free later (subst Q among.without p.greedy))));
+  }
+    where
+      present : (u : ValueRecord) → has_effect u ≡ true → In u (xs ++ ys) ⊎ (v ≡ u) → In u p.es
+      present u q (inl j) = p.present u j q
+      present u q (inr d) = let k = ap has_effect d in absurd cc
+
+      iv : In v b.values
+      iv = left.within v (mid v xs ys)
+
+      few : (u : ValueRecord) → In u b.values → rank f u.id < room f
+      few u i = rank_below_room s f c.sound u.id (record { block = b; value = u; stands = here u i; named = refl; reached = c.reached })
+
+      untaken : (x : ValueRecord) → In x (xs ++ v ∷ ys) → need f b x v ≡ true → ⊥
+      untaken x i q =
+          let n = needs_true s f c.sound (room f) b x v (here x (left.within x i)) (here v iv) q in
+          let y = taker_in b (xs ++ v ∷ ys) left.closed x v i n in
+          h.free y.0 y.1 y.2
+
+      free : (x : ValueRecord) → In x (front ++ v ∷ back) → need f b x v ≡ false
+      free x i = test_false (need f b x v) (untaken x (among.left x i))
+
+      -- a free value of those left that needs one due with the chosen one is the chosen one or stands before it
+      before : (y w : ValueRecord) → In y (xs ++ v ∷ ys) → asks y ≡ true → state_of f y ≡ Some p.state → In w (xs ++ v ∷ ys) → IsFree b (xs ++ v ∷ ys) w → Needs b w y → In w front ⊎ (v ≡ w)
+      before y w iy ay ty iw free n = go (stands w v xs ys iw)
+        where
+          iwb : In w b.values
+          iwb = left.within w iw
+
+          same : level y ≡ level v
+          same = same_level y v (left.within y iy) iv (ask_acts y ay) (ask_acts v a) p.state ty t
+
+          -- it is due at the state
+          due : AtMost level class w v → (acts w ≡ true) × (level w ≡ level v)
+          due o = by (acts w) refl
+            where
+              bound : AtMost level class w v → level w ≤ level v
+              bound (inl l) = omega (arith, l)
+              bound (inr q) = omega (arith, q.0)
+
+              low : (k : ℕ) → level v ≡ suc k → level w ≤ k → acts w ≡ true → ⊥
+              low k q l aw =
+                  let P : ℕ → Type 0 = λ j. slice_get (m ∷ numbers_of vs) j ≡ Some p.state in
+                  let u = state_value m vs k p.state (subst P q (c.keys.at v (here v iv) (ask_acts v a) p.state t)) in
+                  let tu = chain_at f b m vs c.chain k u.0 u.1 in
+                  let iyb = here y (left.within y iy) in
+                  let names = named_state s f c.sound b y iyb c.reached (ask_no_phi y ay) p.state ty in
+                  let needs = needs_named s f c.sound b c.reached y u.0 iyb tu.2.0 (ask_no_phi y ay) p.state names u.2 in
+                  low_needs_not s f b m vs level class c w (here w iwb) aw k u.0 u.1 l (needs_onward b w y u.0 n needs)
+
+              equal : acts w ≡ true → (k : ℕ) → level v ≡ k → level w ≤ k → (level w ≡ k) ⊎ (level w < k) → level w ≡ k
+              equal aw k q l (inl d) = d
+              equal aw zero q l (inr d) = absurd (omega (arith, d))
+              equal aw (suc k) q l (inr d) = absurd (low k q (omega (arith, d)) aw)
+
+              split : (x y : ℕ) → x ≤ y → (x ≡ y) ⊎ (x < y)
+              split x y l = elim (cases_order x y) as (λ _. (x ≡ y) ⊎ (x < y)) [
+                | inl d ↦ inl d
+                | inr q ↦ (elim q as (λ _. (x ≡ y) ⊎ (x < y)) [ inl d ↦ inr d | inr d ↦ absurd (omega (arith, d, l)) ])
+              ]
+
+              by : (u : Bool) → acts w ≡ u → (acts w ≡ true) × (level w ≡ level v)
+              by true q = (q, equal q (level v) refl (bound o) (split (level w) (level v) (bound o)))
+              by false q =
+                  let x = c.keys.anytime w (here w iwb) q in
+                  let z = act_low v iv (ask_acts v a) in
+                  let l = bound o in
+                  absurd (omega (arith, x, z, l))
+
+          -- it is a check or a load
+          asking : (acts w ≡ true) → class w ≤ 1 → asks w ≡ true
+          asking q l = by (or_cases (has_effect w) (asks w) q)
+            where
+              by : (has_effect w ≡ true) ⊎ (asks w ≡ true) → asks w ≡ true
+              by (inl d) = let k = c.keys.effect w (here w iwb) d in absurd (omega (arith, k, l))
+              by (inr d) = d
+
+          its : (acts w ≡ true) → level w ≡ level v → state_of f w ≡ Some p.state
+          its q l =
+              let x = act_state s f b m vs level class c w (here w iwb) q in
+              let P : ℕ → Type 0 = λ j. slice_get (m ∷ numbers_of vs) j ≡ Some x.0 in
+              let d : Some x.0 ≡ Some p.state = sym (subst P l (c.keys.at w (here w iwb) q x.0 x.1)) ∙ c.keys.at v (here v iv) (ask_acts v a) p.state t in
+              x.1 ∙ d
+
+          order_of : (q : (acts w ≡ true) × (level w ≡ level v)) → (In w xs × (class w ≤ class v)) ⊎ (class w < class v) → class w ≤ class v → In w (xs ++ ys) → In w front
+          order_of q o l i = let z = ask_class v iv a in among.sooner w i (asking q.0 (omega (arith, z, l))) (its q.0 q.1) o
+
+          front_case : In w xs → (o : AtMost level class w v) → AtMost level class w v → In w front
+          front_case i o (inl l) = let q = due o in absurd (omega (arith, l, q.1))
+          front_case i o (inr l) = order_of (due o) (inl (i, l.1)) l.1 (in_left w xs ys i)
+
+          back_case : In w ys → (o : AtMost level class w v) → Sooner level class w v → In w front
+          back_case i o (inl l) = let q = due o in absurd (omega (arith, l, q.1))
+          back_case i o (inr l) = order_of (due o) (inr l.1) (omega (arith, l.1)) (in_right w xs ys i)
+
+          weaker : Sooner level class w v → AtMost level class w v
+          weaker (inl l) = inl l
+          weaker (inr l) = inr (l.0, omega (arith, l.1))
+
+          go : Stands w v xs ys → In w front ⊎ (v ≡ w)
+          go (inl i) = inl (let o = h.front w i free in front_case i o o)
+          go (inr (inl d)) = inr d
+          go (inr (inr i)) = inl (let o = h.back w i free in back_case i (weaker o) o)
+
+      -- one that stands behind the chosen one is not free
+      not_free : (y : ValueRecord) → In y (xs ++ v ∷ ys) → asks y ≡ true → state_of f y ≡ Some p.state → (In y ys × (class y ≡ class v)) ⊎ (class v < class y) → IsFree b (xs ++ v ∷ ys) y → ⊥
+      not_free y iy ay ty o free = go o (stands y v xs ys iy)
+        where
+          same : level y ≡ level v
+          same = same_level y v (left.within y iy) iv (ask_acts y ay) (ask_acts v a) p.state ty t
+
+          sooner_not : Sooner level class y v → class v ≤ class y → ⊥
+          sooner_not (inl l) k = absurd (omega (arith, l, same))
+          sooner_not (inr l) k = absurd (omega (arith, l.1, k))
+
+          most_not : AtMost level class y v → class v < class y → ⊥
+          most_not (inl l) k = absurd (omega (arith, l, same))
+          most_not (inr l) k = absurd (omega (arith, l.1, k))
+
+          go : (In y ys × (class y ≡ class v)) ⊎ (class v < class y) → Stands y v xs ys → ⊥
+          go (inl q) place = sooner_not (h.back y q.0 free) (omega (arith, q.1))
+          go (inr l) (inl i) = most_not (h.front y i free) l
+          go (inr l) (inr (inl d)) = let k = ap class d in absurd (omega (arith, l, k))
+          go (inr l) (inr (inr i)) = sooner_not (h.back y i free) (omega (arith, l))
+
+      later : (y : ValueRecord) → In y back → ((x : ValueRecord) × In x front × (need f b x y ≡ true)) ⊎ (need f b v y ≡ true)
+      later y i =
+          let iy = among.left y (in_right y front (v ∷ back) (inr i)) in
+          let q = among.later y i in
+          go iy q (top s f c.sound b c.reached c.block (xs ++ v ∷ ys) left.within y iy)
+        where
+          test : (w : ValueRecord) → In w b.values → In y (xs ++ v ∷ ys) → Needs b w y → need f b w y ≡ true
+          test w iw iy n = true_needs s f c.sound b c.reached c.block (room f) w y (few w iw) n
+
+          go : In y (xs ++ v ∷ ys) → (asks y ≡ true) × (state_of f y ≡ Some p.state) × ((In y ys × (class y ≡ class v)) ⊎ (class v < class y)) → Top b (xs ++ v ∷ ys) y →
+              ((x : ValueRecord) × In x front × (need f b x y ≡ true)) ⊎ (need f b v y ≡ true)
+          go iy q r = elim r.way as (λ _. ((x : ValueRecord) × In x front × (need f b x y ≡ true)) ⊎ (need f b v y ≡ true)) [
+            | inl d ↦ absurd (not_free y iy q.0 q.1 q.2 (let P : ValueRecord → Type 0 = λ x. IsFree b (xs ++ v ∷ ys) x in subst P d r.free))
+            | inr n ↦ (elim (before y r.value iy q.0 q.1 r.stands r.free n) as (λ _. ((x : ValueRecord) × In x front × (need f b x y ≡ true)) ⊎ (need f b v y ≡ true)) [
+                | inl j ↦ inl (r.value, j, test r.value (left.within r.value r.stands) iy n)
+                | inr d ↦ inr (test v iv iy (let P : ValueRecord → Type 0 = λ x. Needs b x y in subst P (sym d) n))
+            ])
+          ]
