@@ -733,3 +733,184 @@ module _ (s : Setting) (f : FuncRecord) (b : BlockRecord) (m : ℕ) (vs : List V
                 | inr d ↦ inr (test v iv iy (let P : ValueRecord → Type 0 = λ x. Needs b x y in subst P (sym d) n))
             ])
           ]
+
+  -- the others of a state that are left, about a check and about a load
+
+  at_check_class : (n : ℕ) (v : ValueRecord) → In v b.values → at_check f n v ≡ true → class v ≡ 0
+  at_check_class n v i e = c.keys.check v (here v i) (and_parts (is_check (origin_of v.op.family)) (is_at (state_of f v) n) e).0
+
+  at_load_class : (n : ℕ) (v : ValueRecord) → In v b.values → at_load f n v ≡ true → class v ≡ 1
+  at_load_class n v i e = c.keys.load v (here v i) (and_parts (is_load (origin_of v.op.family)) (is_at (state_of f v) n) e).0
+
+  -- a check or a load of a state, by its class
+  by_class : (n : ℕ) (v : ValueRecord) → In v b.values → asks v ≡ true → state_of f v ≡ Some n → ((at_check f n v ≡ true) × (class v ≡ 0)) ⊎ ((at_load f n v ≡ true) × (class v ≡ 1))
+  by_class n v i a t = go (or_cases (is_check (origin_of v.op.family)) (is_load (origin_of v.op.family)) a)
+    where
+      go : (is_check (origin_of v.op.family) ≡ true) ⊎ (is_load (origin_of v.op.family) ≡ true) → ((at_check f n v ≡ true) × (class v ≡ 0)) ⊎ ((at_load f n v ≡ true) × (class v ≡ 1))
+      go (inl e) = inl (rw (e, some_at (state_of f v) n t) refl, c.keys.check v (here v i) e)
+      go (inr e) = inr (rw (e, some_at (state_of f v) n t) refl, c.keys.load v (here v i) e)
+
+  among_check : (n : ℕ) (xs ys : List ValueRecord) (v : ValueRecord) → Left f b level (xs ++ v ∷ ys) → at_check f n v ≡ true → at_load f n v ≡ false →
+      Among n xs ys v (filter (at_check f n) xs) (filter (at_check f n) ys ++ filter (at_load f n) (xs ++ ys))
+  among_check n xs ys v left e l = record {
+    whole = ap (λ (zs : List ValueRecord). zs ++ filter (at_load f n) (xs ++ v ∷ ys)) (filter_keep (at_check f n) v xs ys e)
+    ∙ append_assoc (filter (at_check f n) xs) (v ∷ filter (at_check f n) ys) (filter (at_load f n) (xs ++ v ∷ ys))
+    ∙ ap (λ (zs : List ValueRecord). filter (at_check f n) xs ++ v ∷ (filter (at_check f n) ys ++ zs)) (filter_skip (at_load f n) v xs ys l);
+    without = ap (λ (zs : List ValueRecord). zs ++ filter (at_load f n) (xs ++ ys)) (filter-append (at_check f n) xs ys)
+    ∙ append_assoc (filter (at_check f n) xs) (filter (at_check f n) ys) (filter (at_load f n) (xs ++ ys));
+    left = λ u i. inside u (stands u v (filter (at_check f n) xs) (filter (at_check f n) ys ++ filter (at_load f n) (xs ++ ys)) i);
+    later = λ u i. beyond u (in_either u (filter (at_check f n) ys) (filter (at_load f n) (xs ++ ys)) i);
+    sooner = λ u i a t q. before u i (by_class n u (left.within u (with_mid u v xs ys i)) a t) q;
+  }
+    where
+      own : class v ≡ 0
+      own = at_check_class n v (left.within v (mid v xs ys)) e
+
+      inside : (u : ValueRecord) → Stands u v (filter (at_check f n) xs) (filter (at_check f n) ys ++ filter (at_load f n) (xs ++ ys)) → In u (xs ++ v ∷ ys)
+      inside u (inl i) = in_left u xs (v ∷ ys) (in-filter (at_check f n) u xs i).0
+      inside u (inr (inl d)) = (let P : ValueRecord → Type 0 = λ x. In x (xs ++ v ∷ ys) in subst P d (mid v xs ys))
+      inside u (inr (inr i)) = elim (in_either u (filter (at_check f n) ys) (filter (at_load f n) (xs ++ ys)) i) as (λ _. In u (xs ++ v ∷ ys)) [
+        | inl j ↦ in_right u xs (v ∷ ys) (inr (in-filter (at_check f n) u ys j).0)
+        | inr j ↦ with_mid u v xs ys (in-filter (at_load f n) u (xs ++ ys) j).0
+      ]
+
+      beyond : (u : ValueRecord) → In u (filter (at_check f n) ys) ⊎ In u (filter (at_load f n) (xs ++ ys)) → (asks u ≡ true) × (state_of f u ≡ Some n) × ((In u ys × (class u ≡ class v)) ⊎ (class v < class u))
+      beyond u (inl i) =
+          let q = in-filter (at_check f n) u ys i in
+          let a = check_asks n u q.1 in
+          let k = at_check_class n u (left.within u (in_right u xs (v ∷ ys) (inr q.0))) q.1 in
+          (a.0, a.1, inl (q.0, k ∙ sym own))
+      beyond u (inr i) =
+          let q = in-filter (at_load f n) u (xs ++ ys) i in
+          let a = load_asks n u q.1 in
+          let k = at_load_class n u (left.within u (with_mid u v xs ys q.0)) q.1 in
+          (a.0, a.1, inr (omega (arith, k, own)))
+
+      before : (u : ValueRecord) → In u (xs ++ ys) → ((at_check f n u ≡ true) × (class u ≡ 0)) ⊎ ((at_load f n u ≡ true) × (class u ≡ 1)) → (In u xs × (class u ≤ class v)) ⊎ (class u < class v) → In u (filter (at_check f n) xs)
+      before u i (inl k) (inl q) = filter-in (at_check f n) u xs q.0 k.0
+      before u i (inl k) (inr l) = absurd (omega (arith, l, own))
+      before u i (inr k) (inl q) = absurd (omega (arith, q.1, k.1, own))
+      before u i (inr k) (inr l) = absurd (omega (arith, l, own))
+
+  among_load : (n : ℕ) (xs ys : List ValueRecord) (v : ValueRecord) → Left f b level (xs ++ v ∷ ys) → at_load f n v ≡ true → at_check f n v ≡ false →
+      Among n xs ys v (filter (at_check f n) (xs ++ ys) ++ filter (at_load f n) xs) (filter (at_load f n) ys)
+  among_load n xs ys v left e l = record {
+    whole = ap (λ (zs : List ValueRecord). zs ++ filter (at_load f n) (xs ++ v ∷ ys)) (filter_skip (at_check f n) v xs ys l)
+    ∙ ap (λ (zs : List ValueRecord). filter (at_check f n) (xs ++ ys) ++ zs) (filter_keep (at_load f n) v xs ys e)
+    ∙ sym (append_assoc (filter (at_check f n) (xs ++ ys)) (filter (at_load f n) xs) (v ∷ filter (at_load f n) ys));
+    without = ap (λ (zs : List ValueRecord). filter (at_check f n) (xs ++ ys) ++ zs) (filter-append (at_load f n) xs ys)
+    ∙ sym (append_assoc (filter (at_check f n) (xs ++ ys)) (filter (at_load f n) xs) (filter (at_load f n) ys));
+    left = λ u i. inside u (stands u v (filter (at_check f n) (xs ++ ys) ++ filter (at_load f n) xs) (filter (at_load f n) ys) i);
+    later = λ u i. beyond u i;
+    sooner = λ u i a t q. before u i (by_class n u (left.within u (with_mid u v xs ys i)) a t) q;
+  }
+    where
+      own : class v ≡ 1
+      own = at_load_class n v (left.within v (mid v xs ys)) e
+
+      inside : (u : ValueRecord) → Stands u v (filter (at_check f n) (xs ++ ys) ++ filter (at_load f n) xs) (filter (at_load f n) ys) → In u (xs ++ v ∷ ys)
+      inside u (inl i) = elim (in_either u (filter (at_check f n) (xs ++ ys)) (filter (at_load f n) xs) i) as (λ _. In u (xs ++ v ∷ ys)) [
+        | inl j ↦ with_mid u v xs ys (in-filter (at_check f n) u (xs ++ ys) j).0
+        | inr j ↦ in_left u xs (v ∷ ys) (in-filter (at_load f n) u xs j).0
+      ]
+      inside u (inr (inl d)) = (let P : ValueRecord → Type 0 = λ x. In x (xs ++ v ∷ ys) in subst P d (mid v xs ys))
+      inside u (inr (inr i)) = in_right u xs (v ∷ ys) (inr (in-filter (at_load f n) u ys i).0)
+
+      beyond : (u : ValueRecord) → In u (filter (at_load f n) ys) → (asks u ≡ true) × (state_of f u ≡ Some n) × ((In u ys × (class u ≡ class v)) ⊎ (class v < class u))
+      beyond u i =
+          let q = in-filter (at_load f n) u ys i in
+          let a = load_asks n u q.1 in
+          let k = at_load_class n u (left.within u (in_right u xs (v ∷ ys) (inr q.0))) q.1 in
+          (a.0, a.1, inl (q.0, k ∙ sym own))
+
+      before : (u : ValueRecord) → In u (xs ++ ys) → ((at_check f n u ≡ true) × (class u ≡ 0)) ⊎ ((at_load f n u ≡ true) × (class u ≡ 1)) → (In u xs × (class u ≤ class v)) ⊎ (class u < class v) →
+          In u (filter (at_check f n) (xs ++ ys) ++ filter (at_load f n) xs)
+      before u i (inl k) q = in_left u (filter (at_check f n) (xs ++ ys)) (filter (at_load f n) xs) (filter-in (at_check f n) u (xs ++ ys) i k.0)
+      before u i (inr k) (inl q) = in_right u (filter (at_check f n) (xs ++ ys)) (filter (at_load f n) xs) (filter-in (at_load f n) u xs q.0 k.0)
+      before u i (inr k) (inr l) = absurd (omega (arith, l, k.1, own))
+
+  ask_no_effect : (v : ValueRecord) → asks v ≡ true → has_effect v ≡ false
+  ask_no_effect v a = test_false (has_effect v) (λ e. let k = effect_asks_not v e in absurd cc)
+
+  add_by : (xs ys zs : List ValueRecord) (v : ValueRecord) → Left f b level (xs ++ v ∷ ys) → Left f b level (xs ++ ys) → Chosen xs ys v → asks v ≡ true → (p : Part f b m vs (xs ++ ys) zs) → state_of f v ≡ Some p.state →
+      ((at_check f p.state v ≡ true) × (class v ≡ 0)) ⊎ ((at_load f p.state v ≡ true) × (class v ≡ 1)) → Part f b m vs (xs ++ v ∷ ys) (zs ++ v ∷ [])
+  add_by xs ys zs v left after h a p t (inl k) =
+      let q = check_not_load v (and_parts (is_check (origin_of v.op.family)) (is_at (state_of f v) p.state) k.0).0 in
+      let l = no_test (is_load (origin_of v.op.family)) (is_at (state_of f v) p.state) q in
+      add_ask xs ys zs v left after h a (ask_no_effect v a) p t (filter (at_check f p.state) xs) (filter (at_check f p.state) ys ++ filter (at_load f p.state) (xs ++ ys))
+      (among_check p.state xs ys v left k.0 l)
+  add_by xs ys zs v left after h a p t (inr k) =
+      let q = load_not_check v (and_parts (is_load (origin_of v.op.family)) (is_at (state_of f v) p.state) k.0).0 in
+      let l = no_test (is_check (origin_of v.op.family)) (is_at (state_of f v) p.state) q in
+      add_ask xs ys zs v left after h a (ask_no_effect v a) p t (filter (at_check f p.state) (xs ++ ys) ++ filter (at_load f p.state) xs) (filter (at_load f p.state) ys)
+      (among_load p.state xs ys v left k.0 l)
+
+  add_value : (xs ys zs : List ValueRecord) (v : ValueRecord) → Left f b level (xs ++ v ∷ ys) → Chosen xs ys v → Part f b m vs (xs ++ ys) zs → Part f b m vs (xs ++ v ∷ ys) (zs ++ v ∷ [])
+  add_value xs ys zs v left h p = go (has_effect v) refl (asks v) refl
+    where
+      after : Left f b level (xs ++ ys)
+      after = left_more xs ys v left h
+
+      go : (t : Bool) → has_effect v ≡ t → (u : Bool) → asks v ≡ u → Part f b m vs (xs ++ v ∷ ys) (zs ++ v ∷ [])
+      go true e u d = add_effect xs ys zs v left after h e p
+      go false e false d = add_quiet xs ys zs v (rw (e, d) refl) p
+      go false e true d =
+          let x = act_state s f b m vs level class c v (here v (left.within v (mid v xs ys))) (ask_acts v d) in
+          let t = x.1 ∙ ap Some (its_state xs ys zs v left after p (ask_acts v d) x.0 x.1) in
+          add_by xs ys zs v left after h d p t (by_class p.state v (left.within v (mid v xs ys)) d t)
+
+  filled_part : (xs zs : List ValueRecord) → Filled b level class xs zs → Left f b level xs → Part f b m vs xs zs
+  filled_part _ _ empty left = record {
+    es = [];
+    rest = vs;
+    pre = [];
+    seg = [];
+    state = m;
+    all = refl;
+    parts = refl;
+    behind = start;
+    still = tt;
+    place = refl;
+    present = λ e i q. elim i [ ];
+    there = λ e i. elim i [ ];
+    greedy = none;
+  }
+  filled_part _ _ (fill xs ys zs v free front back g) left =
+      let h : Chosen xs ys v = record { free = free; front = front; back = back } in
+      add_value xs ys zs v left h (filled_part (xs ++ ys) zs g (left_more xs ys v left h))
+
+  all_left : Left f b level b.values
+  all_left = record {
+    within = λ v i. i;
+    closed = λ x v i t. to_in v b.values t.0;
+    once = c.sound.named.once b c.block;
+    levels = λ e u i q j a l. j;
+    checks_left = λ e n i t. refl;
+    loads_left = λ e n i t. refl;
+  }
+
+  whole_part : (ls : List ValueRecord) → Part f b m vs b.values ls → Laid f b m vs ls
+  whole_part ls p =
+      let P : List ValueRecord → Type 0 = λ ws. Laid f b m ws ls in
+      let R : List ValueRecord → Type 0 = λ ws. Laid f b m (p.es ++ []) ws in
+      subst P (ap (λ (ws : List ValueRecord). p.es ++ ws) (sym (no_rest p.rest p.all)) ∙ sym p.all)
+      (subst R (sym p.parts) (finish f b m p.es p.pre p.state p.behind [] p.seg (last p.state p.seg p.still alike)))
+    where
+      alike : (t : Target) (g : ℕ → ℕ) (d : List ℕ) → first_fault t g d (order f b p.state) ≡ first_fault t g d p.seg
+      alike t g d = order_greedy s f c.sound b c.reached c.block p.state (filter asks p.seg) p.greedy t g d ∙ asked_faults t g d p.seg
+
+      no_rest : (rest : List ValueRecord) → vs ≡ p.es ++ rest → rest ≡ []
+      no_rest [] e = refl
+      no_rest (w ∷ ws) e =
+          let P : List ValueRecord → Type 0 = λ xs. slice_get xs (length p.es) ≡ Some w in
+          let g : slice_get vs (length p.es) ≡ Some w = subst P (sym e) (head_right p.es w ws) in
+          let t = chain_at f b m vs c.chain (length p.es) w g in
+          let x = level_at s f b m vs level class c (length p.es) w g in
+          let j = in_place p.es w (p.present w (to_in w b.values t.2.0.1) t.2.1) in
+          let R : List ValueRecord → Type 0 = λ xs. slice_get xs j.0 ≡ Some w in
+          let y = level_at s f b m vs level class c j.0 w (subst R (sym e) (got_left p.es (w ∷ ws) j.0 w j.1)) in
+          absurd (omega (arith, x, y, j.2))
+
+  -- so a filled list does what the block does
+  pub filled_laid : (ls : List ValueRecord) → Filled b level class b.values ls → Laid f b m vs ls
+  filled_laid ls g = whole_part ls (filled_part b.values ls g all_left)
