@@ -171,20 +171,36 @@ record Left (f : FuncRecord) (b : BlockRecord) (level : ValueRecord → ℕ) (xs
   checks_left : (e : ValueRecord) (n : ℕ) → In e xs → Follows f b n e → filter (at_check f n) xs ≡ checks_at f b n
   loads_left : (e : ValueRecord) (n : ℕ) → In e xs → Follows f b n e → filter (at_load f n) xs ≡ loads_at f b n
 
+-- the checks and loads of the list name the state
+abbrev pub AllNamed : FuncRecord → ℕ → List ValueRecord → Type 0
+AllNamed f n xs = (v : ValueRecord) → In v xs → asks v ≡ true → state_of f v ≡ Some n
+
+-- each check, load and memory value stands where memory is in the state that it names
+pub data Placed (f : FuncRecord) : ℕ → List ValueRecord → Type 0 where
+  ends : (n : ℕ) (seg : List ValueRecord) → Still seg → AllNamed f n seg → Placed f n seg
+  goes : (n : ℕ) (seg ls : List ValueRecord) (v : ValueRecord) → Still seg → AllNamed f n seg → has_effect v ≡ true → state_of f v ≡ Some n → Placed f v.id ls → Placed f n (seg ++ v ∷ ls)
+
 -- memory values, each behind the checks and loads of its state
 data Behind (f : FuncRecord) (b : BlockRecord) (m : ℕ) : List ValueRecord → List ValueRecord → ℕ → Type 0 where
   start : Behind f b m [] [] m
-  on : (es zs seg : List ValueRecord) (n : ℕ) (v : ValueRecord) → Behind f b m es zs n → Still seg → ((t : Target) (g : ℕ → ℕ) (d : List ℕ) → first_fault t g d (order f b n) ≡ first_fault t g d seg) →
+  on : (es zs seg : List ValueRecord) (n : ℕ) (v : ValueRecord) → Behind f b m es zs n → Still seg → AllNamed f n seg → state_of f v ≡ Some n → ((t : Target) (g : ℕ → ℕ) (d : List ℕ) → first_fault t g d (order f b n) ≡ first_fault t g d seg) →
       has_effect v ≡ true → Behind f b m (es ++ v ∷ []) (zs ++ (seg ++ v ∷ [])) v.id
 
 finish : (f : FuncRecord) (b : BlockRecord) (m : ℕ) (es zs : List ValueRecord) (n : ℕ) → Behind f b m es zs n → (rest ls : List ValueRecord) → Laid f b n rest ls → Laid f b m (es ++ rest) (zs ++ ls)
 finish f b m _ _ _ start rest ls laid = laid
-finish f b m _ _ _ (on es zs seg n v q still alike e) rest ls laid =
+finish f b m _ _ _ (on es zs seg n v q still named t alike e) rest ls laid =
     let r = finish f b m es zs n q (v ∷ rest) (seg ++ v ∷ ls) (more n seg rest ls v still alike e laid) in
     let P : List ValueRecord → Type 0 = λ xs. Laid f b m xs ((zs ++ (seg ++ v ∷ [])) ++ ls) in
     let R : List ValueRecord → Type 0 = λ xs. Laid f b m (es ++ v ∷ rest) xs in
     subst P (sym (append_assoc es (v ∷ []) rest))
     (subst R (ap (λ (xs : List ValueRecord). zs ++ xs) (sym (append_assoc seg (v ∷ []) ls)) ∙ sym (append_assoc zs (seg ++ v ∷ []) ls)) r)
+
+finish_placed : (f : FuncRecord) (b : BlockRecord) (m : ℕ) (es zs : List ValueRecord) (n : ℕ) → Behind f b m es zs n → (ls : List ValueRecord) → Placed f n ls → Placed f m (zs ++ ls)
+finish_placed f b m _ _ _ start ls placed = placed
+finish_placed f b m _ _ _ (on es zs seg n v q still named t alike e) ls placed =
+    let P : List ValueRecord → Type 0 = λ xs. Placed f m xs in
+    subst P (ap (λ (xs : List ValueRecord). zs ++ xs) (sym (append_assoc seg (v ∷ []) ls)) ∙ sym (append_assoc zs (seg ++ v ∷ []) ls))
+    (finish_placed f b m es zs n q (seg ++ v ∷ ls) (goes n seg ls v still named e t placed))
 
 still_more : (xs : List ValueRecord) (v : ValueRecord) → Still xs → has_effect v ≡ false → Still (xs ++ v ∷ [])
 still_more [] v h e = (e, tt)
@@ -223,6 +239,7 @@ record Part (f : FuncRecord) (b : BlockRecord) (m : ℕ) (vs xs zs : List ValueR
   parts : zs ≡ pre ++ seg
   behind : Behind f b m es pre state
   still : Still seg
+  named : AllNamed f state seg
   place : slice_get (m ∷ numbers_of vs) (length es) ≡ Some state
   present : (e : ValueRecord) → In e xs → has_effect e ≡ true → In e es
   there : (e : ValueRecord) → In e es → In e xs
@@ -468,6 +485,10 @@ module _ (s : Setting) (f : FuncRecord) (b : BlockRecord) (m : ℕ) (vs : List V
     parts = end zs p.pre p.seg v p.parts;
     behind = p.behind;
     still = still_more p.seg v p.still a.0;
+    named = λ u i q. elim (in_either u p.seg (v ∷ []) i) as (λ _. state_of f u ≡ Some p.state) [
+      | inl j ↦ p.named u j q
+      | inr j ↦ absurd (unasked u j q)
+    ];
     place = p.place;
     present = λ u i q. present u q (or_mid u v xs ys i);
     there = λ u i. with_mid u v xs ys (p.there u i);
@@ -479,6 +500,10 @@ module _ (s : Setting) (f : FuncRecord) (b : BlockRecord) (m : ℕ) (vs : List V
     where
       a : (has_effect v ≡ false) × (asks v ≡ false)
       a = not_act (has_effect v) (asks v) e
+
+      unasked : (u : ValueRecord) → In u (v ∷ []) → asks u ≡ true → ⊥
+      unasked u (inl d) q = let k = ap asks d in let x = not_act (has_effect v) (asks v) e in absurd cc
+      unasked u (inr j) q = elim j [ ]
 
       present : (u : ValueRecord) → has_effect u ≡ true → In u (xs ++ ys) ⊎ (v ≡ u) → In u p.es
       present u q (inl j) = p.present u j q
@@ -495,8 +520,9 @@ module _ (s : Setting) (f : FuncRecord) (b : BlockRecord) (m : ℕ) (vs : List V
     state = v.id;
     all = p.all ∙ ap (λ (ws : List ValueRecord). p.es ++ ws) tail.1 ∙ sym (append_assoc p.es (v ∷ []) tail.0);
     parts = end zs p.pre p.seg v p.parts ∙ sym (append-nil (p.pre ++ (p.seg ++ v ∷ [])));
-    behind = on p.es p.pre p.seg p.state v p.behind p.still alike e;
+    behind = on p.es p.pre p.seg p.state v p.behind p.still p.named (state.1 ∙ ap Some is_state) alike e;
     still = tt;
+    named = λ u i q. elim i [ ];
     place = (let k = length-append p.es (v ∷ []) in let P : ℕ → Type 0 = λ j. slice_get (m ∷ numbers_of vs) j ≡ Some v.id in
     let j : suc (length p.es) ≡ length (p.es ++ v ∷ []) = omega (arith, k) in subst P j (at_number vs (length p.es) v got));
     present = λ u i q. present u q (or_mid u v xs ys i);
@@ -584,6 +610,10 @@ module _ (s : Setting) (f : FuncRecord) (b : BlockRecord) (m : ℕ) (vs : List V
     parts = end zs p.pre p.seg v p.parts;
     behind = p.behind;
     still = still_more p.seg v p.still e;
+    named = λ u i q. elim (in_either u p.seg (v ∷ []) i) as (λ _. state_of f u ≡ Some p.state) [
+      | inl j ↦ p.named u j q
+      | inr j ↦ own u j
+    ];
     place = p.place;
     present = λ u i q. present u q (or_mid u v xs ys i);
     there = λ u i. with_mid u v xs ys (p.there u i);
@@ -596,6 +626,10 @@ module _ (s : Setting) (f : FuncRecord) (b : BlockRecord) (m : ℕ) (vs : List V
       present : (u : ValueRecord) → has_effect u ≡ true → In u (xs ++ ys) ⊎ (v ≡ u) → In u p.es
       present u q (inl j) = p.present u j q
       present u q (inr d) = let k = ap has_effect d in absurd cc
+
+      own : (u : ValueRecord) → In u (v ∷ []) → state_of f u ≡ Some p.state
+      own u (inl d) = ap (state_of f) (sym d) ∙ t
+      own u (inr j) = elim j [ ]
 
       iv : In v b.values
       iv = left.within v (mid v xs ys)
@@ -870,6 +904,7 @@ module _ (s : Setting) (f : FuncRecord) (b : BlockRecord) (m : ℕ) (vs : List V
     parts = refl;
     behind = start;
     still = tt;
+    named = λ u i q. elim i [ ];
     place = refl;
     present = λ e i q. elim i [ ];
     there = λ e i. elim i [ ];
@@ -914,3 +949,10 @@ module _ (s : Setting) (f : FuncRecord) (b : BlockRecord) (m : ℕ) (vs : List V
   -- so a filled list does what the block does
   pub filled_laid : (ls : List ValueRecord) → Filled b level class b.values ls → Laid f b m vs ls
   filled_laid ls g = whole_part ls (filled_part b.values ls g all_left)
+
+  -- and each check, load and memory value stands in it where memory is in its state
+  pub filled_placed : (ls : List ValueRecord) → Filled b level class b.values ls → Placed f m ls
+  filled_placed ls g =
+      let p = filled_part b.values ls g all_left in
+      let P : List ValueRecord → Type 0 = λ xs. Placed f m xs in
+      subst P (sym p.parts) (finish_placed f b m p.es p.pre p.state p.behind p.seg (ends p.state p.seg p.still p.named))
