@@ -1,8 +1,7 @@
 -- A block's values in a list that was filled from its end, each time with the one that is due last, do what the block does.
-use Rattle.std.proofs.Common.{◌≡◌, ℕ, zero, suc, ◌+◌, ◌<◌, ◌≤◌, refl, ap, sym, ◌∙◌, subst, arith, ◌⊎◌, inl, inr, List, [], ◌∷◌, ◌++◌, length, map, Option, Some, None, Bool, true, false, cond, ◌||◌, ◌&&◌, append_assoc, length-append, append-nil}
+use Rattle.std.proofs.Common.{◌≡◌, ℕ, zero, suc, ◌<◌, ◌≤◌, refl, ap, sym, ◌∙◌, subst, arith, ◌⊎◌, inl, inr, List, [], ◌∷◌, ◌++◌, length, Some, None, Bool, true, false, cond, ◌||◌, ◌&&◌, append_assoc, length-append, append-nil}
 use Rattle.std.specs.Prelude.{filter, slice_get}
-use Rattle.std.specs.List.{Contains}
-use Rattle.std.proofs.lemmas.Bool.{cases_lt, cases_order, or_cases, or_left, or_right, and_parts}
+use Rattle.std.proofs.lemmas.Bool.{cases_order, or_cases, or_left, or_right, and_parts}
 use Rattle.std.proofs.lemmas.List.{length-map}
 use Rattle.std.proofs.lemmas.Option.{slice_get_within}
 use Rattle.bk_ops.specs.declared.types.Target.{Target}
@@ -12,8 +11,8 @@ use Rattle.bk_ops.specs.declared.family.RvOp.TheVariants as rv
 use Rattle.bk_func.specs.Records.{ValueRecord, BlockRecord, FuncRecord}
 use Rattle.bk_func.specs.Numbers.{Origin, checked, loaded, origin_of, state_of, room}
 use Rattle.bk_func.specs.Effects.{has_effect, is_check, is_load, is_at, checks_at, loads_at, order}
-use Rattle.bk_func.specs.Meaning.{Outcome, fault_at, fault_by, first_fault, or_else}
-use Rattle.bk_func.specs.Form.Text.{HasBlock, HasValue, IsPhi}
+use Rattle.bk_func.specs.Meaning.{fault_at, fault_by, first_fault, or_else}
+use Rattle.bk_func.specs.Form.Text.{HasValue, IsPhi}
 use Rattle.bk_func.specs.Form.Before.{IsTakenBy, Needs}
 use Rattle.bk_func.specs.Form.Signatures.{Setting}
 use Rattle.bk_func.proofs.Faults.{In, in-filter, filter-in}
@@ -26,9 +25,9 @@ use Rattle.bk_mean.proofs.Ranks.{rank, rank_below_room, needs_onward}
 use Rattle.bk_mean.proofs.Needed.{need, needs_true, true_needs}
 use Rattle.bk_mean.proofs.States.{named_state, needs_named}
 use Rattle.bk_mean.proofs.Chains.{needs_apart}
-use Rattle.bk_mean.proofs.Follows.{Follows, follows_needs, numbers_of, at_some, some_at}
+use Rattle.bk_mean.proofs.Follows.{Follows, numbers_of, at_some, some_at}
 use Rattle.bk_mean.proofs.Turns.{filter-append, in_either, order_greedy}
-use Rattle.bk_mean.proofs.Levels.{asks, acts, ask_no_phi, ask_acts, effect_acts, Timed, Keys, chain_at, state_value, at_number, one_place, level_at, effect_at, act_state, low_needs_not, IsClosedList, IsFree, needed_in, taker_in, Top, top}
+use Rattle.bk_mean.proofs.Levels.{asks, acts, ask_no_phi, ask_acts, effect_acts, Timed, chain_at, state_value, at_number, one_place, level_at, effect_at, act_state, low_needs_not, IsClosedList, IsFree, needed_in, taker_in, Top, top}
 
 -- due no later, and due sooner
 abbrev pub AtMost : (ValueRecord → ℕ) → (ValueRecord → ℕ) → ValueRecord → ValueRecord → Type 0
@@ -47,10 +46,10 @@ pub data Filled (b : BlockRecord) (level class : ValueRecord → ℕ) : List Val
 
 -- lists with an element more
 
-with_mid : {A : Type 0} (x v : A) (xs ys : List A) → In x (xs ++ ys) → In x (xs ++ v ∷ ys)
+pub with_mid : {A : Type 0} (x v : A) (xs ys : List A) → In x (xs ++ ys) → In x (xs ++ v ∷ ys)
 with_mid x v xs ys i = elim (in_either x xs ys i) as (λ _. In x (xs ++ v ∷ ys)) [ inl j ↦ in_left x xs (v ∷ ys) j | inr j ↦ in_right x xs (v ∷ ys) (inr j) ]
 
-mid : {A : Type 0} (v : A) (xs ys : List A) → In v (xs ++ v ∷ ys)
+pub mid : {A : Type 0} (v : A) (xs ys : List A) → In v (xs ++ v ∷ ys)
 mid v xs ys = in_right v xs (v ∷ ys) (inl refl)
 
 -- where an element of such a list stands
@@ -63,7 +62,7 @@ stands x v xs ys i = elim (in_either x xs (v ∷ ys) i) as (λ _. Stands x v xs 
   | inr j ↦ (elim j as (λ _. Stands x v xs ys) [ inl e ↦ inr (inl e) | inr k ↦ inr (inr k) ])
 ]
 
-or_mid : {A : Type 0} (x v : A) (xs ys : List A) → In x (xs ++ v ∷ ys) → In x (xs ++ ys) ⊎ (v ≡ x)
+pub or_mid : {A : Type 0} (x v : A) (xs ys : List A) → In x (xs ++ v ∷ ys) → In x (xs ++ ys) ⊎ (v ≡ x)
 or_mid x v xs ys i = elim (stands x v xs ys i) as (λ _. In x (xs ++ ys) ⊎ (v ≡ x)) [
   | inl j ↦ inl (in_left x xs ys j)
   | inr q ↦ (elim q as (λ _. In x (xs ++ ys) ⊎ (v ≡ x)) [ inl e ↦ inr e | inr j ↦ inl (in_right x xs ys j) ])
@@ -328,8 +327,8 @@ module _ (s : Setting) (f : FuncRecord) (b : BlockRecord) (m : ℕ) (vs : List V
       go t = elim t.way as (λ _. ⊥) [
         | inl d ↦ (let P : ValueRecord → Type 0 = λ x. IsFree b (xs ++ v ∷ ys) x in let free = subst P d t.free in itself free (at_most xs ys v h e i free))
         | inr n ↦ (elim (or_mid t.value v xs ys t.stands) as (λ _. ⊥) [
-            | inl j ↦ low t.value (left.within t.value t.stands) n (lower t.value (at_most xs ys v h t.value j t.free))
-            | inr d ↦ low v iv (let P : ValueRecord → Type 0 = λ x. Needs b x e in subst P (sym d) n) (omega arith)
+          | inl j ↦ low t.value (left.within t.value t.stands) n (lower t.value (at_most xs ys v h t.value j t.free))
+          | inr d ↦ low v iv (let P : ValueRecord → Type 0 = λ x. Needs b x e in subst P (sym d) n) (omega arith)
         ])
       ]
 
@@ -493,9 +492,9 @@ module _ (s : Setting) (f : FuncRecord) (b : BlockRecord) (m : ℕ) (vs : List V
     present = λ u i q. present u q (or_mid u v xs ys i);
     there = λ u i. with_mid u v xs ys (p.there u i);
     greedy = (let P : List ValueRecord → Type 0 = λ ws. Greedy (need f b) ws (filter asks (p.seg ++ v ∷ [])) in
-    let R : List ValueRecord → Type 0 = λ ws. Greedy (need f b) (left_at f p.state (xs ++ ys)) ws in
-    let k = neither p.state v a.1 in
-    subst P (sym (same_left p.state xs ys v k.0 k.1)) (subst R (sym (asks_end p.seg v a.1)) p.greedy));
+        let R : List ValueRecord → Type 0 = λ ws. Greedy (need f b) (left_at f p.state (xs ++ ys)) ws in
+        let k = neither p.state v a.1 in
+        subst P (sym (same_left p.state xs ys v k.0 k.1)) (subst R (sym (asks_end p.seg v a.1)) p.greedy));
   }
     where
       a : (has_effect v ≡ false) × (asks v ≡ false)
@@ -524,7 +523,7 @@ module _ (s : Setting) (f : FuncRecord) (b : BlockRecord) (m : ℕ) (vs : List V
     still = tt;
     named = λ u i q. elim i [ ];
     place = (let k = length-append p.es (v ∷ []) in let P : ℕ → Type 0 = λ j. slice_get (m ∷ numbers_of vs) j ≡ Some v.id in
-    let j : suc (length p.es) ≡ length (p.es ++ v ∷ []) = omega (arith, k) in subst P j (at_number vs (length p.es) v got));
+        let j : suc (length p.es) ≡ length (p.es ++ v ∷ []) = omega (arith, k) in subst P j (at_number vs (length p.es) v got));
     present = λ u i q. present u q (or_mid u v xs ys i);
     there = λ u i. elim (in_either u p.es (v ∷ []) i) as (λ _. In u (xs ++ v ∷ ys)) [
       | inl j ↦ with_mid u v xs ys (p.there u j)
@@ -618,9 +617,9 @@ module _ (s : Setting) (f : FuncRecord) (b : BlockRecord) (m : ℕ) (vs : List V
     present = λ u i q. present u q (or_mid u v xs ys i);
     there = λ u i. with_mid u v xs ys (p.there u i);
     greedy = (let P : List ValueRecord → Type 0 = λ ws. Greedy (need f b) ws (filter asks (p.seg ++ v ∷ [])) in
-    let R : List ValueRecord → Type 0 = λ ws. Greedy (need f b) (front ++ v ∷ back) ws in
-    let Q : List ValueRecord → Type 0 = λ ws. Greedy (need f b) ws (filter asks p.seg) in
-    subst P (sym among.whole) (subst R (sym (asks_more p.seg v a)) (put front back (filter asks p.seg) v free later (subst Q among.without p.greedy))));
+        let R : List ValueRecord → Type 0 = λ ws. Greedy (need f b) (front ++ v ∷ back) ws in
+        let Q : List ValueRecord → Type 0 = λ ws. Greedy (need f b) ws (filter asks p.seg) in
+        subst P (sym among.whole) (subst R (sym (asks_more p.seg v a)) (put front back (filter asks p.seg) v free later (subst Q among.without p.greedy))));
   }
     where
       present : (u : ValueRecord) → has_effect u ≡ true → In u (xs ++ ys) ⊎ (v ≡ u) → In u p.es
@@ -763,8 +762,8 @@ module _ (s : Setting) (f : FuncRecord) (b : BlockRecord) (m : ℕ) (vs : List V
           go iy q r = elim r.way as (λ _. ((x : ValueRecord) × In x front × (need f b x y ≡ true)) ⊎ (need f b v y ≡ true)) [
             | inl d ↦ absurd (not_free y iy q.0 q.1 q.2 (let P : ValueRecord → Type 0 = λ x. IsFree b (xs ++ v ∷ ys) x in subst P d r.free))
             | inr n ↦ (elim (before y r.value iy q.0 q.1 r.stands r.free n) as (λ _. ((x : ValueRecord) × In x front × (need f b x y ≡ true)) ⊎ (need f b v y ≡ true)) [
-                | inl j ↦ inl (r.value, j, test r.value (left.within r.value r.stands) iy n)
-                | inr d ↦ inr (test v iv iy (let P : ValueRecord → Type 0 = λ x. Needs b x y in subst P (sym d) n))
+              | inl j ↦ inl (r.value, j, test r.value (left.within r.value r.stands) iy n)
+              | inr d ↦ inr (test v iv iy (let P : ValueRecord → Type 0 = λ x. Needs b x y in subst P (sym d) n))
             ])
           ]
 
@@ -788,10 +787,10 @@ module _ (s : Setting) (f : FuncRecord) (b : BlockRecord) (m : ℕ) (vs : List V
       Among n xs ys v (filter (at_check f n) xs) (filter (at_check f n) ys ++ filter (at_load f n) (xs ++ ys))
   among_check n xs ys v left e l = record {
     whole = ap (λ (zs : List ValueRecord). zs ++ filter (at_load f n) (xs ++ v ∷ ys)) (filter_keep (at_check f n) v xs ys e)
-    ∙ append_assoc (filter (at_check f n) xs) (v ∷ filter (at_check f n) ys) (filter (at_load f n) (xs ++ v ∷ ys))
-    ∙ ap (λ (zs : List ValueRecord). filter (at_check f n) xs ++ v ∷ (filter (at_check f n) ys ++ zs)) (filter_skip (at_load f n) v xs ys l);
+        ∙ append_assoc (filter (at_check f n) xs) (v ∷ filter (at_check f n) ys) (filter (at_load f n) (xs ++ v ∷ ys))
+        ∙ ap (λ (zs : List ValueRecord). filter (at_check f n) xs ++ v ∷ (filter (at_check f n) ys ++ zs)) (filter_skip (at_load f n) v xs ys l);
     without = ap (λ (zs : List ValueRecord). zs ++ filter (at_load f n) (xs ++ ys)) (filter-append (at_check f n) xs ys)
-    ∙ append_assoc (filter (at_check f n) xs) (filter (at_check f n) ys) (filter (at_load f n) (xs ++ ys));
+        ∙ append_assoc (filter (at_check f n) xs) (filter (at_check f n) ys) (filter (at_load f n) (xs ++ ys));
     left = λ u i. inside u (stands u v (filter (at_check f n) xs) (filter (at_check f n) ys ++ filter (at_load f n) (xs ++ ys)) i);
     later = λ u i. beyond u (in_either u (filter (at_check f n) ys) (filter (at_load f n) (xs ++ ys)) i);
     sooner = λ u i a t q. before u i (by_class n u (left.within u (with_mid u v xs ys i)) a t) q;
@@ -830,10 +829,10 @@ module _ (s : Setting) (f : FuncRecord) (b : BlockRecord) (m : ℕ) (vs : List V
       Among n xs ys v (filter (at_check f n) (xs ++ ys) ++ filter (at_load f n) xs) (filter (at_load f n) ys)
   among_load n xs ys v left e l = record {
     whole = ap (λ (zs : List ValueRecord). zs ++ filter (at_load f n) (xs ++ v ∷ ys)) (filter_skip (at_check f n) v xs ys l)
-    ∙ ap (λ (zs : List ValueRecord). filter (at_check f n) (xs ++ ys) ++ zs) (filter_keep (at_load f n) v xs ys e)
-    ∙ sym (append_assoc (filter (at_check f n) (xs ++ ys)) (filter (at_load f n) xs) (v ∷ filter (at_load f n) ys));
+        ∙ ap (λ (zs : List ValueRecord). filter (at_check f n) (xs ++ ys) ++ zs) (filter_keep (at_load f n) v xs ys e)
+        ∙ sym (append_assoc (filter (at_check f n) (xs ++ ys)) (filter (at_load f n) xs) (v ∷ filter (at_load f n) ys));
     without = ap (λ (zs : List ValueRecord). filter (at_check f n) (xs ++ ys) ++ zs) (filter-append (at_load f n) xs ys)
-    ∙ sym (append_assoc (filter (at_check f n) (xs ++ ys)) (filter (at_load f n) xs) (filter (at_load f n) ys));
+        ∙ sym (append_assoc (filter (at_check f n) (xs ++ ys)) (filter (at_load f n) xs) (filter (at_load f n) ys));
     left = λ u i. inside u (stands u v (filter (at_check f n) (xs ++ ys) ++ filter (at_load f n) xs) (filter (at_load f n) ys) i);
     later = λ u i. beyond u i;
     sooner = λ u i a t q. before u i (by_class n u (left.within u (with_mid u v xs ys i)) a t) q;

@@ -1,25 +1,25 @@
 -- How far the states of a block are from the one that it begins with, and what that says of needs.
-use Rattle.std.proofs.Common.{◌≡◌, ℕ, zero, suc, ◌+◌, ◌<◌, ◌≤◌, refl, ap, sym, ◌∙◌, subst, arith, ◌⊎◌, inl, inr, List, [], ◌∷◌, ◌++◌, length, map, Option, Some, None, Bool, true, false, ◌||◌, ◌&&◌, ◌==◌, eq-eqb}
+use Rattle.std.proofs.Common.{◌≡◌, ℕ, zero, suc, ◌+◌, ◌<◌, ◌≤◌, refl, ap, sym, ◌∙◌, subst, arith, ◌⊎◌, inl, inr, List, [], ◌∷◌, length, Some, Bool, true, false, ◌||◌, ◌==◌, eq-eqb}
 use Rattle.std.specs.Prelude.{slice_get}
 use Rattle.std.specs.List.{Contains, list_any}
-use Rattle.std.proofs.lemmas.Bool.{cases_order, or_cases, or_left, or_right, eqb-true, cases_lt}
+use Rattle.std.proofs.lemmas.Bool.{cases_order, or_cases, or_left, or_right, eqb-true}
 use Rattle.bk_func.specs.Records.{ValueRecord, BlockRecord, FuncRecord}
 use Rattle.bk_func.specs.Numbers.{Origin, checked, loaded, origin_of, state_of, room}
 use Rattle.bk_func.specs.Effects.{has_effect, is_check, is_load, is_phi}
 use Rattle.bk_func.specs.Form.Text.{HasBlock, HasValue, IsPhi}
 use Rattle.bk_func.specs.Form.Walks.{IsReached}
-use Rattle.bk_func.specs.Form.States.{Names, IsStateIn, IsState}
-use Rattle.bk_func.specs.Form.Before.{IsTakenBy, Needs, takes, through, IsLoad, IsNilCheck, IsResult, ComesBefore, state as before_state, Precedes, right}
+use Rattle.bk_func.specs.Form.States.{Names, IsStateIn}
+use Rattle.bk_func.specs.Form.Before.{IsTakenBy, Needs, takes, through, IsLoad, IsNilCheck, IsResult, ComesBefore, state as before_state}
 use Rattle.bk_func.specs.Form.Signatures.{Setting}
 use Rattle.bk_func.proofs.Faults.{In}
 use Rattle.bk_func.proofs.Needs.{any_in, in_any}
 use Rattle.bk_ops.specs.declared.family.Family.TheVariants as op
 use Rattle.bk_mean.proofs.Named.{to_in, to_contains, got_in}
-use Rattle.bk_mean.proofs.Roles.{loads, checks, no_phi, not_phi, load_args, check_args}
+use Rattle.bk_mean.proofs.Roles.{loads, checks, no_phi, not_phi, check_args}
 use Rattle.bk_mean.proofs.Typed.{effect_is_state}
 use Rattle.bk_mean.proofs.Formed.{Sound}
 use Rattle.bk_mean.proofs.Ranks.{rank, rank_below_room, argument_falls, needs_precede, needs_onward, behind}
-use Rattle.bk_mean.proofs.States.{state_named, named_state, needs_named}
+use Rattle.bk_mean.proofs.States.{state_named, named_state}
 use Rattle.bk_mean.proofs.Steady.{load_state}
 use Rattle.bk_mean.proofs.Chains.{needs_apart}
 use Rattle.bk_mean.proofs.Follows.{Follows, follows_names, follows_needs, follows_one, Chained, done, next, numbers_of}
@@ -238,8 +238,8 @@ free_or_taken b v iv (x ∷ xs) within =
   where
     rest : ¬ IsTakenBy b v x → IsFree b xs v ⊎ ((y : ValueRecord) × In y xs × IsTakenBy b v y) → IsFree b (x ∷ xs) v ⊎ ((y : ValueRecord) × In y (x ∷ xs) × IsTakenBy b v y)
     rest n (inl k) = inl (λ y i. elim i as (λ _. ¬ IsTakenBy b v y) [
-        | inl e ↦ (let P : ValueRecord → Type 0 = λ z. ¬ IsTakenBy b v z in subst P e n)
-        | inr j ↦ k y j
+      | inl e ↦ (let P : ValueRecord → Type 0 = λ z. ¬ IsTakenBy b v z in subst P e n)
+      | inr j ↦ k y j
     ])
     rest n (inr (y, i, t)) = inr (y, inr i, t)
 
@@ -272,8 +272,8 @@ top_from s f h b r i xs within (suc k) v iv l = go (free_or_taken b v (to_contai
       stands = q.stands;
       free = q.free;
       way = inr (elim q.way as (λ _. Needs b q.value v) [
-          | inl e ↦ (let P : ValueRecord → Type 0 = λ z. Needs b z v in subst P (sym e) (takes v y t))
-          | inr n ↦ needs_onward b q.value y v n (takes v y t)
+        | inl e ↦ (let P : ValueRecord → Type 0 = λ z. Needs b z v in subst P (sym e) (takes v y t))
+        | inr n ↦ needs_onward b q.value y v n (takes v y t)
       ]);
     }
 

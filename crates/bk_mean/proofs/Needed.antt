@@ -1,20 +1,20 @@
 -- What a value needs in its block, as a test and as a relation.
-use Rattle.std.proofs.Common.{◌≡◌, ℕ, zero, suc, ◌<◌, refl, ap, sym, ◌∙◌, subst, arith, ◌⊎◌, inl, inr, List, [], ◌∷◌, Option, Some, None, Bool, true, false, ◌||◌, ◌&&◌, ◌==◌, not, eq-eqb}
-use Rattle.std.specs.List.{list_any, Contains}
+use Rattle.std.proofs.Common.{◌≡◌, ℕ, zero, suc, ◌<◌, refl, sym, subst, arith, ◌⊎◌, inl, inr, Option, Some, None, Bool, true, false, ◌||◌, ◌==◌, not, eq-eqb}
+use Rattle.std.specs.List.{list_any}
 use Rattle.std.proofs.lemmas.Bool.{eqb-true, and_parts, or_cases, or_left, or_right, not-true}
 use Rattle.bk_func.specs.Records.{ValueRecord, BlockRecord, FuncRecord}
 use Rattle.bk_func.specs.Numbers.{origin_of, value_in, room}
 use Rattle.bk_func.specs.Effects.{needs, is_phi}
-use Rattle.bk_func.specs.Form.Text.{HasBlock, HasValue, IsPhi}
+use Rattle.bk_func.specs.Form.Text.{HasBlock, HasValue}
 use Rattle.bk_func.specs.Form.Walks.{IsReached}
 use Rattle.bk_func.specs.Form.Before.{IsTakenBy, Needs, takes, through}
 use Rattle.bk_func.specs.Form.Signatures.{Setting}
 use Rattle.bk_func.proofs.Faults.{In}
-use Rattle.bk_func.proofs.Needs.{any_in, in_any, found_in, BlockRanked, needs_more}
+use Rattle.bk_func.proofs.Needs.{any_in, in_any, found_in}
 use Rattle.bk_mean.proofs.Named.{to_in, to_contains, found_here}
 use Rattle.bk_mean.proofs.Roles.{no_phi, not_phi}
 use Rattle.bk_mean.proofs.Formed.{Sound}
-use Rattle.bk_mean.proofs.Ranks.{rank, argument_falls, block_ranks}
+use Rattle.bk_mean.proofs.Ranks.{rank, argument_falls}
 
 -- u needs v in the block
 abbrev pub need : FuncRecord → BlockRecord → ValueRecord → ValueRecord → Bool

@@ -1,22 +1,19 @@
 -- The checks and loads of a state fault as a list does that was filled from its end.
-use Rattle.std.proofs.Common.{◌≡◌, ℕ, zero, suc, ◌+◌, ◌<◌, ◌≤◌, refl, ap, sym, ◌∙◌, subst, arith, ◌⊎◌, inl, inr, List, [], ◌∷◌, ◌++◌, length, Option, Some, None, Bool, true, false, cond, ◌&&◌, append_assoc, length-append}
+use Rattle.std.proofs.Common.{◌≡◌, ℕ, zero, suc, ◌+◌, ◌<◌, ◌≤◌, refl, ap, sym, ◌∙◌, subst, arith, ◌⊎◌, inl, inr, List, [], ◌∷◌, ◌++◌, length, Option, Some, None, Bool, true, false, cond, ◌&&◌, append_assoc}
 use Rattle.std.specs.Prelude.{filter, flat_map, slice_get}
-use Rattle.std.specs.List.{Contains}
 use Rattle.std.proofs.lemmas.Bool.{and_parts}
 use Rattle.bk_ops.specs.declared.types.Target.{Target}
 use Rattle.bk_func.specs.Records.{ValueRecord, BlockRecord, FuncRecord}
 use Rattle.bk_func.specs.Numbers.{Origin, checked, origin_of, state_of, room}
-use Rattle.bk_func.specs.Effects.{is_check, is_load, is_phi, is_at, checks_at, loads_at, needs, after_needs, order}
-use Rattle.bk_func.specs.Meaning.{Outcome, fault_at, first_fault, or_else}
+use Rattle.bk_func.specs.Effects.{is_check, is_load, is_at, checks_at, loads_at, after_needs, order}
+use Rattle.bk_func.specs.Meaning.{Outcome, first_fault, or_else}
 use Rattle.bk_func.specs.Form.Text.{HasBlock, HasValue, IsPhi}
 use Rattle.bk_func.specs.Form.Walks.{IsReached}
-use Rattle.bk_func.specs.Form.States.{Names}
-use Rattle.bk_func.specs.Form.Before.{IsNilCheck, IsListed, Needs, Checks, ComesBefore, checks as check_before, Precedes, right}
+use Rattle.bk_func.specs.Form.Before.{Needs, Checks, ComesBefore, checks as check_before}
 use Rattle.bk_func.specs.Form.Signatures.{Setting}
-use Rattle.bk_func.proofs.Faults.{In, in-filter, filter-in, first_fault-append, none_of, none_in, none_first}
-use Rattle.bk_func.proofs.Needs.{needs_more}
-use Rattle.bk_func.proofs.Greedy.{Need, after, Closed, Greedy, greedy_first}
-use Rattle.bk_mean.proofs.Named.{to_in, to_contains, in_left, in_right}
+use Rattle.bk_func.proofs.Faults.{In, in-filter, first_fault-append, none_of}
+use Rattle.bk_func.proofs.Greedy.{after, Closed, Greedy, greedy_first}
+use Rattle.bk_mean.proofs.Named.{to_contains, in_left, in_right}
 use Rattle.bk_mean.proofs.Roles.{checks}
 use Rattle.bk_mean.proofs.Formed.{Sound}
 use Rattle.bk_mean.proofs.Ranks.{rank, rank_below_room, needs_precede, needs_onward, behind}
@@ -176,9 +173,9 @@ after_stable s f h b r i all within (suc k) (suc j) v iv l m =
     ap (λ (zs : List ValueRecord). zs ++ v ∷ [])
     (flat-same (after k (need f b) all) (after j (need f b) all) (filter (need f b v) all)
     (λ x q.
-        let p = in-filter (need f b v) x all q in
-        let less = needed_lower s f h b r v x (i, to_contains v b.values (within v iv)) (i, to_contains x b.values (within x p.0)) p.1 in
-        after_stable s f h b r i all within k j x p.0 (omega (arith, l, less)) (omega (arith, m, less))))
+    let p = in-filter (need f b v) x all q in
+    let less = needed_lower s f h b r v x (i, to_contains v b.values (within v iv)) (i, to_contains x b.values (within x p.0)) p.1 in
+    after_stable s f h b r i all within k j x p.0 (omega (arith, l, less)) (omega (arith, m, less))))
 
 faults_same : (t : Target) (m : ℕ → ℕ) (d : List ℕ) (h g : ValueRecord → List ValueRecord) (xs : List ValueRecord) → ((x : ValueRecord) → In x xs → first_fault t m d (h x) ≡ first_fault t m d (g x)) →
     first_fault t m d (flat_map h xs) ≡ first_fault t m d (flat_map g xs)
@@ -224,9 +221,9 @@ one_alike s f b n c t m d (suc k) zero v i l few safe =
     ∙ ap (λ o. or_else o None)
     (none_of t m d (after k (need f b) (both f b n)) (filter (need f b v) (checks_at f b n))
     (λ x q.
-        let p = in-filter (need f b v) x (checks_at f b n) q in
-        let less = needed_lower s f c.sound b c.reached v x (here s f b n c v i) (here s f b n c x (in_left x (checks_at f b n) (loads_at f b n) p.0)) p.1 in
-        safe x p.0 p.1 k (omega (arith, l, less)))))
+    let p = in-filter (need f b v) x (checks_at f b n) q in
+    let less = needed_lower s f c.sound b c.reached v x (here s f b n c v i) (here s f b n c x (in_left x (checks_at f b n) (loads_at f b n) p.0)) p.1 in
+    safe x p.0 p.1 k (omega (arith, l, less)))))
 one_alike s f b n c t m d (suc k) (suc j) v i l few safe =
     first_fault-append t m d (flat_map (after k (need f b) (both f b n)) (filter (need f b v) (both f b n))) (v ∷ [])
     ∙ ap (λ o. or_else o (first_fault t m d (v ∷ [])))
@@ -236,18 +233,18 @@ one_alike s f b n c t m d (suc k) (suc j) v i l few safe =
     ∙ ap (λ o. or_else o (first_fault t m d (flat_map (after k (need f b) (both f b n)) (filter (need f b v) (loads_at f b n)))))
     (none_of t m d (after k (need f b) (both f b n)) (filter (need f b v) (checks_at f b n))
     (λ x q.
-        let p = in-filter (need f b v) x (checks_at f b n) q in
-        let less = needed_lower s f c.sound b c.reached v x (here s f b n c v i) (here s f b n c x (in_left x (checks_at f b n) (loads_at f b n) p.0)) p.1 in
-        safe x p.0 p.1 k (omega (arith, l, less))))
+    let p = in-filter (need f b v) x (checks_at f b n) q in
+    let less = needed_lower s f c.sound b c.reached v x (here s f b n c v i) (here s f b n c x (in_left x (checks_at f b n) (loads_at f b n) p.0)) p.1 in
+    safe x p.0 p.1 k (omega (arith, l, less))))
     ∙ faults_same t m d (after k (need f b) (both f b n)) (after_needs j f b (loads_at f b n)) (filter (need f b v) (loads_at f b n))
     (λ x q.
-        let p = in-filter (need f b v) x (loads_at f b n) q in
-        let ix = in_right x (checks_at f b n) (loads_at f b n) p.0 in
-        let less = needed_lower s f c.sound b c.reached v x (here s f b n c v i) (here s f b n c x ix) p.1 in
-        let closed = need_closed s f c.sound b c.reached c.block (both f b n) (both_within f b n) in
-        let fewer = fewer_by_one (need f b x) (need f b v) x (loads_at f b n) (λ y iy e. closed.trans v x y i ix (in_right y (checks_at f b n) (loads_at f b n) iy) p.1 e) p.0 (closed.irreflexive x ix) p.1 in
-        one_alike s f b n c t m d k j x ix (omega (arith, l, less)) (omega (arith, few, fewer))
-        (λ y iy e a la. safe y iy (closed.trans v x y i ix (in_left y (checks_at f b n) (loads_at f b n) iy) p.1 e) a la)))
+    let p = in-filter (need f b v) x (loads_at f b n) q in
+    let ix = in_right x (checks_at f b n) (loads_at f b n) p.0 in
+    let less = needed_lower s f c.sound b c.reached v x (here s f b n c v i) (here s f b n c x ix) p.1 in
+    let closed = need_closed s f c.sound b c.reached c.block (both f b n) (both_within f b n) in
+    let fewer = fewer_by_one (need f b x) (need f b v) x (loads_at f b n) (λ y iy e. closed.trans v x y i ix (in_right y (checks_at f b n) (loads_at f b n) iy) p.1 e) p.0 (closed.irreflexive x ix) p.1 in
+    one_alike s f b n c t m d k j x ix (omega (arith, l, less)) (omega (arith, few, fewer))
+    (λ y iy e a la. safe y iy (closed.trans v x y i ix (in_left y (checks_at f b n) (loads_at f b n) iy) p.1 e) a la)))
     ∙ sym (first_fault-append t m d (flat_map (after_needs j f b (loads_at f b n)) (filter (need f b v) (loads_at f b n))) (v ∷ []))
 
 -- the checks that a value needs stand before it
@@ -328,9 +325,9 @@ rest_alike s f b n c t m d k l pre (x ∷ post) e safe =
     alike =
         one_alike s f b n c t m d k (length (loads_at f b n)) x ix (within x ix) (short (need f b x) (loads_at f b n))
         (λ v i q a la.
-            let iv = in_left v (checks_at f b n) (loads_at f b n) i in
-            ap (first_fault t m d) (after_stable s f c.sound b c.reached c.block (both f b n) (both_within f b n) a k v iv la (within v iv))
-            ∙ safe v (needed_before s f b n c pre x post e v i q))
+        let iv = in_left v (checks_at f b n) (loads_at f b n) i in
+        ap (first_fault t m d) (after_stable s f c.sound b c.reached c.block (both f b n) (both_within f b n) a k v iv la (within v iv))
+        ∙ safe v (needed_before s f b n c pre x post e v i q))
       where
         short : (u : ValueRecord → Bool) (ys : List ValueRecord) → length (filter u ys) ≤ length ys
         short u [] = omega arith
