@@ -133,7 +133,7 @@ loads_act v (inl d) e = no_effect v op.Load refl e d
 loads_act v (inr (inl d)) e = no_effect v (op.Arm arm.Load) refl e d
 loads_act v (inr (inr d)) e = no_effect v (op.Rv rv.Load) refl e d
 
-effect_asks_not : (v : ValueRecord) → has_effect v ≡ true → asks v ≡ false
+pub effect_asks_not : (v : ValueRecord) → has_effect v ≡ true → asks v ≡ false
 effect_asks_not v e = go (asks v) refl
   where
     by : (is_check (origin_of v.op.family) ≡ true) ⊎ (is_load (origin_of v.op.family) ≡ true) → ⊥
@@ -144,7 +144,7 @@ effect_asks_not v e = go (asks v) refl
     go true q = absurd (by (or_cases (is_check (origin_of v.op.family)) (is_load (origin_of v.op.family)) q))
     go false q = refl
 
-check_not_load : (v : ValueRecord) → is_check (origin_of v.op.family) ≡ true → is_load (origin_of v.op.family) ≡ false
+pub check_not_load : (v : ValueRecord) → is_check (origin_of v.op.family) ≡ true → is_load (origin_of v.op.family) ≡ false
 check_not_load v e = go (origin_of v.op.family) e
   where
     go : (o : Origin) → is_check o ≡ true → is_load o ≡ false

@@ -1,4 +1,5 @@
 pub mod Along
+pub mod Arranged
 pub mod Chains
 pub mod Course
 pub mod Dominance
