@@ -66,7 +66,7 @@ once_end (z ∷ zs) w o n = (
   once_end zs w o.1 (λ i. n (inr i)),
 )
 
-once_parts : (v : ValueRecord) (xs ys : List ValueRecord) → Once (xs ++ v ∷ ys) → (¬ In v xs) × Once (xs ++ ys) × ¬ In v (xs ++ ys)
+pub once_parts : (v : ValueRecord) (xs ys : List ValueRecord) → Once (xs ++ v ∷ ys) → (¬ In v xs) × Once (xs ++ ys) × ¬ In v (xs ++ ys)
 once_parts v [] ys o = (λ i. i, o.1, o.0)
 once_parts v (x ∷ xs) ys o =
     let r = once_parts v xs ys o.1 in
@@ -213,7 +213,7 @@ placed_state f _ _ (goes n seg ls w still named act t placed) pre v post e a =
 
 -- one value after the other
 
-halted_same : (o : Option Outcome) (a : Activation) (w : World) → IfGives (halted o a w) (λ d x. (d ≡ a) × (x ≡ w))
+pub halted_same : (o : Option Outcome) (a : Activation) (w : World) → IfGives (halted o a w) (λ d x. (d ≡ a) × (x ≡ w))
 halted_same None a w = (refl, refl)
 halted_same (Some o) a w = tt
 

@@ -19,3 +19,4 @@ pub mod Steady
 pub mod Turns
 pub mod Typed
 pub mod Walked
+pub mod Tables
