@@ -20,3 +20,4 @@ pub mod Turns
 pub mod Typed
 pub mod Walked
 pub mod Tables
+pub mod Knowing

@@ -108,7 +108,7 @@ pub record Turn (s : Setting) (f : FuncRecord) (b : BlockRecord) (level class : 
   pub stands : HasValue f b v
 
 module _ (s : Setting) (f : FuncRecord) (b : BlockRecord) (level class : ValueRecord → ℕ) (pre : List ValueRecord) (v : ValueRecord) (post : List ValueRecord) (c : Turn s f b level class pre v post) where
-  not_done : ¬ In v pre
+  pub not_done : ¬ In v pre
   not_done =
       (let P : List ValueRecord → Type 0 = λ ws. Once ws in
       (once_parts v pre post (subst P c.parts (filled_once b level class b.values c.list c.filled (c.sound.named.once b c.stands.0)))).0)
