@@ -16,12 +16,11 @@ use Rattle.bk_func.specs.Form.Signatures.{Setting}
 use Rattle.bk_func.proofs.Faults.{In}
 use Rattle.bk_func.proofs.Flat.{Laid}
 use Rattle.bk_mean.specs.Arranged.{Due, Later, by_level, by_class, by_place, anytime, class_of, level_in, due_of, Filled, none, put}
-use Rattle.bk_mean.proofs.Named.{to_in, to_contains, got_in, in_left, in_right}
+use Rattle.bk_mean.proofs.Named.{to_in, to_contains, got_in, in_left, in_right, in_got, in_either}
 use Rattle.bk_mean.proofs.Dominance.{reached_block}
 use Rattle.bk_mean.proofs.Formed.{Sound}
 use Rattle.bk_mean.proofs.Follows.{chain_complete, numbers_of, IsMet}
 use Rattle.bk_mean.proofs.Course.{Meets, effect_done, state_met}
-use Rattle.bk_mean.proofs.Turns.{in_either}
 use Rattle.bk_mean.proofs.Levels.{asks, acts, ask_state, ask_state_of, Keys, Timed, chain_at, IsFree}
 use Rattle.bk_mean.proofs.Laying.{Filled as ByValues, empty, fill, check_not_load, effect_asks_not, Placed, filled_laid, filled_placed}
 
@@ -94,11 +93,6 @@ chain_short (suc k) f b m = go (next_at f b m) (λ n. chain_short k f b n)
 met_in : (m : ℕ) (vs : List ValueRecord) (n : ℕ) → IsMet m vs n → In n (m ∷ numbers_of vs)
 met_in m vs n (inl e) = inl (sym e)
 met_in m vs n (inr i) = inr i
-
-in_got : {A : Type 0} (xs : List A) (x : A) → In x xs → (k : ℕ) × (slice_get xs k ≡ Some x)
-in_got [] x i = elim i [ ]
-in_got (y ∷ ys) x (inl e) = (0, ap Some e)
-in_got (y ∷ ys) x (inr i) = let r = in_got ys x i in (suc r.0, r.1)
 
 act_met : (s : Setting) (f : FuncRecord) → Sound s f → (b : BlockRecord) → IsReached f b → (m : ℕ) → Meets f b m → (v : ValueRecord) → HasValue f b v → acts v ≡ true →
     (n : ℕ) × (state_of f v ≡ Some n) × In n (first_state b m ∷ numbers_of (chain_from f b (first_state b m)))

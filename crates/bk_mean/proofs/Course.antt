@@ -11,14 +11,14 @@ use Rattle.bk_func.specs.Form.Walks.{begin, IsReached}
 use Rattle.bk_func.specs.Form.States.{IsState, IsStateOf, Names, IsLinked, first, more, Carries, IsFirstState, IsStateIn}
 use Rattle.bk_func.specs.Form.Signatures.{Setting}
 use Rattle.bk_func.proofs.Faults.{In}
-use Rattle.bk_mean.proofs.Named.{to_in, to_contains}
+use Rattle.bk_mean.proofs.Named.{to_in, to_contains, id_in}
 use Rattle.bk_mean.proofs.Dominance.{reached_block}
 use Rattle.bk_mean.proofs.Typed.{effect_is_state, named_effect, no_effect}
 use Rattle.bk_mean.proofs.Formed.{Sound}
 use Rattle.bk_mean.proofs.States.{state_named}
 use Rattle.bk_mean.proofs.Along.{find_in}
 use Rattle.bk_mean.proofs.Chains.{names_no_phi, IsFirst, first_unnamed, first_found, found_first, first_is_state, linked_order, Chain, its_chain}
-use Rattle.bk_mean.proofs.Follows.{Follows, find_true, find_none, chain_complete, id_in, IsMet, chained_next}
+use Rattle.bk_mean.proofs.Follows.{Follows, find_true, find_none, chain_complete, IsMet, chained_next}
 
 -- the state is the one that all walks lead to the block with, if they lead with one
 abbrev pub Meets : FuncRecord → BlockRecord → ℕ → Type 0

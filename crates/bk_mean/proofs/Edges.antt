@@ -15,7 +15,7 @@ use Rattle.bk_func.specs.Form.Signatures.{Setting}
 use Rattle.bk_func.specs.Form.Parts.{IsBlockNumber}
 use Rattle.bk_func.proofs.Faults.{In}
 use Rattle.bk_func.proofs.Unique.{solved}
-use Rattle.bk_mean.proofs.Named.{to_in, found_value, found_here}
+use Rattle.bk_mean.proofs.Named.{to_in, found_value, found_here, got_index}
 use Rattle.bk_mean.proofs.Formed.{Sound}
 use Rattle.bk_mean.proofs.Ranks.{IsLive, rank, ranks}
 
@@ -113,11 +113,6 @@ nth_there n k (x ∷ xs) l = go (cases_eq x n) (cases_eq k 0) (sum_by-cons (hit 
         let c : hit (λ (y : ℕ). y == n) x ≡ 0 = rw (ne_eqb x n e) refl in
         rw (ne_eqb x n e) (one_more (nth_place n k xs) (r k (omega (arith, s, c, l))))
 
-index_got : (xs : List ℕ) (k n : ℕ) → slice_get xs k ≡ Some n → slice_index xs k ≡ n
-index_got [] k n e = absurd cc
-index_got (x ∷ xs) zero n e = cc
-index_got (x ∷ xs) (suc k) n e = index_got xs k n e
-
 -- at an edge's place stands the predecessor that it comes from
 pub edge_arrives : (s : Setting) (f : FuncRecord) → Keeps s f Control → Keeps s f Missing → (b c : BlockRecord) → HasBlock f b → HasBlock f c → (index : ℕ) → slice_get b.succs index ≡ Some c.id →
     slice_get c.preds (edge_place b index (Some c)) ≡ Some b.id
@@ -125,7 +120,7 @@ edge_arrives s f k m b c i j index e =
     let r = ranked_below c.id b.succs index e in
     let q = edges_meet s f k m b c i j in
     let P : ℕ → Type 0 = λ n. count_by (λ x. x == n) (take index b.succs) < count_by (λ x. x == b.id) c.preds in
-    nth_there b.id (rank_in (Some b) index) c.preds (subst P (sym (index_got b.succs index c.id e)) (omega (arith, r, q)))
+    nth_there b.id (rank_in (Some b) index) c.preds (subst P (sym (got_index b.succs index c.id e)) (omega (arith, r, q)))
 
 -- what a phi takes by an edge is defined where the edge begins
 pub phi_argument_defined : (s : Setting) (f : FuncRecord) → Keeps s f Use → (b c : BlockRecord) (v : ValueRecord) → HasBlock f b → HasValue f c v → IsPhi v → (place n : ℕ) →

@@ -13,12 +13,11 @@ use Rattle.bk_func.specs.Form.Signatures.{Setting}
 use Rattle.bk_func.proofs.Faults.{In}
 use Rattle.bk_func.proofs.Flat.{Still, one}
 use Rattle.bk_func.proofs.Unique.{solved}
-use Rattle.bk_mean.proofs.Named.{Once, to_in, found_value, in_left, in_right}
+use Rattle.bk_mean.proofs.Named.{Once, to_in, found_value, in_left, in_right, in_either}
 use Rattle.bk_mean.proofs.Formed.{Sound}
 use Rattle.bk_mean.proofs.Ranks.{IsLive, rank, ranks}
 use Rattle.bk_mean.proofs.Steady.{Agree}
 use Rattle.bk_mean.proofs.Along.{IfGives, IsShown, Nowhere, agree_self, agree_wider, done_agrees}
-use Rattle.bk_mean.proofs.Turns.{in_either}
 use Rattle.bk_mean.proofs.Levels.{asks, acts, IsClosedList, needed_in}
 use Rattle.bk_mean.proofs.Laying.{Filled, empty, fill, AllNamed, Placed, ends, goes, with_mid, mid, or_mid}
 

@@ -13,7 +13,7 @@ use Rattle.bk_func.specs.Form.States.{IsState, Names}
 use Rattle.bk_func.specs.Form.Before.{Needs}
 use Rattle.bk_func.specs.Form.Signatures.{Setting}
 use Rattle.bk_func.proofs.Faults.{In, filter-in, in-filter}
-use Rattle.bk_mean.proofs.Named.{to_in, to_contains}
+use Rattle.bk_mean.proofs.Named.{to_in, to_contains, id_in}
 use Rattle.bk_mean.proofs.Dominance.{reached_block}
 use Rattle.bk_mean.proofs.Longest.{Way, way_short}
 use Rattle.bk_mean.proofs.Typed.{effect_is_state}
@@ -128,11 +128,6 @@ effects b = map (λ v. v.id) (filter has_effect b.values)
 
 abbrev Alive : ℕ → Type 0
 Alive n = Unit {0}
-
-pub id_in : (v : ValueRecord) (vs : List ValueRecord) → In v vs → In v.id (map (λ v. v.id) vs)
-id_in v [] i = elim i [ ]
-id_in v (u ∷ us) (inl e) = inl (ap (λ (x : ValueRecord). x.id) e)
-id_in v (u ∷ us) (inr i) = inr (id_in v us i)
 
 pub in_ids : (n : ℕ) (vs : List ValueRecord) → In n (map (λ v. v.id) vs) → (v : ValueRecord) × In v vs × (v.id ≡ n)
 in_ids n [] i = elim i [ ]

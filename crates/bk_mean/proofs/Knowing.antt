@@ -1,28 +1,27 @@
 -- A table of numbers through a block: it knows the numbers that are known, turn by turn and over an edge.
-use Rattle.std.proofs.Common.{◌≡◌, ℕ, zero, suc, ◌+◌, ◌<◌, refl, ap, sym, ◌∙◌, subst, arith, ◌⊎◌, inl, inr, List, [], ◌∷◌, ◌++◌, length, map, Option, Some, None, Bool, true, false}
-use Rattle.std.specs.Prelude.{slice_index, slice_get}
-use Rattle.std.specs.List.{Contains}
+use Rattle.std.proofs.Common.{◌≡◌, ℕ, refl, ap, sym, ◌∙◌, subst, ◌⊎◌, inl, inr, List, [], ◌∷◌, ◌++◌, Some, true, false}
+use Rattle.std.specs.Prelude.{slice_index}
 use Rattle.std.proofs.lemmas.Bool.{cases_eq}
 use Rattle.bk_ops.specs.declared.family.Family.{Family}
 use Rattle.bk_ops.specs.declared.family.Family.TheVariants as op
 use Rattle.bk_func.specs.Records.{ValueRecord, BlockRecord, FuncRecord}
-use Rattle.bk_func.specs.Numbers.{Program, Env, Origin, result, origin_of, numbers, natural}
+use Rattle.bk_func.specs.Numbers.{Program, Env, result, origin_of, numbers, natural}
 use Rattle.bk_func.specs.Effects.{has_effect}
 use Rattle.bk_func.specs.Meaning.{World, Run, gives, stops, Activation, Calls, entered}
-use Rattle.bk_func.specs.Form.Text.{HasBlock, HasValue, Defines, IsPhi}
+use Rattle.bk_func.specs.Form.Text.{HasValue, Defines, IsPhi}
 use Rattle.bk_func.specs.Form.Walks.{IsReached, IsDefinedAt}
 use Rattle.bk_func.specs.Form.Before.{IsTakenBy}
 use Rattle.bk_func.specs.Form.Signatures.{Setting}
-use Rattle.bk_func.specs.Form.Shapes.{FitsPlace, FitsSlot, slot, call_family}
+use Rattle.bk_func.specs.Form.Shapes.{FitsPlace, slot, call_family}
 use Rattle.bk_func.proofs.Faults.{In}
 use Rattle.bk_func.proofs.Flat.{one}
-use Rattle.bk_mean.proofs.Named.{to_in, to_contains, got_in}
-use Rattle.bk_mean.proofs.Dominance.{defined_here, defined_before, reached_block}
+use Rattle.bk_mean.proofs.Named.{to_in, to_contains, got_in, borne}
+use Rattle.bk_mean.proofs.Dominance.{defined_here, reached_block}
 use Rattle.bk_mean.proofs.Roles.{result_args, result_families, first_argument}
 use Rattle.bk_mean.proofs.Formed.{Sound}
 use Rattle.bk_mean.proofs.Along.{IfGives, IsShown, entered_steady}
 use Rattle.bk_mean.proofs.Edges.{phi_entered}
-use Rattle.bk_mean.proofs.Filling.{filled_in, filled_after, done_closed, result_number}
+use Rattle.bk_mean.proofs.Filling.{filled_after, done_closed, result_number}
 use Rattle.bk_mean.proofs.Tables.{IsReady, IsSettled, IsKnown, Knows, Turn, not_done, known_steady, known_after, effect_number}
 
 -- the value is a result of the call
@@ -124,21 +123,8 @@ pub knows_entered : (s : Setting) (f : FuncRecord) → Sound s f → (p : Progra
     ((x : ℕ) → ((u : ValueRecord) → HasValue f b u → IsPhi u → ¬ (u.id ≡ x)) → n x ≡ m x) →
     ((u : ValueRecord) → HasValue f b u → IsPhi u → n u.id ≡ numbers p f a.env (slice_index u.args place)) →
     Knows p f b [] n (entered p f b place a w).env
-knows_entered s f h p b r place a w shown m n before same phis x known = go (defines b.values)
+knows_entered s f h p b r place a w shown m n before same phis x known = go (borne b.values x)
   where
-    defines : (vs : List ValueRecord) → ((u : ValueRecord) × In u vs × (u.id ≡ x)) ⊎ ((u : ValueRecord) → In u vs → ¬ (u.id ≡ x))
-    defines [] = inr (λ u i. elim i [ ])
-    defines (y ∷ ys) = by (cases_eq y.id x) (defines ys)
-      where
-        by : (y.id ≡ x) ⊎ (y.id ≡ x → ⊥) → ((u : ValueRecord) × In u ys × (u.id ≡ x)) ⊎ ((u : ValueRecord) → In u ys → ¬ (u.id ≡ x)) →
-            ((u : ValueRecord) × In u (y ∷ ys) × (u.id ≡ x)) ⊎ ((u : ValueRecord) → In u (y ∷ ys) → ¬ (u.id ≡ x))
-        by (inl e) q = inl (y, inl refl, e)
-        by (inr k) (inl (u, i, e)) = inl (u, inr i, e)
-        by (inr k) (inr q) = inr (λ u i. elim i as (λ _. ¬ (u.id ≡ x)) [
-            | inl d ↦ (let P : ValueRecord → Type 0 = λ z. ¬ (z.id ≡ x) in subst P d k)
-            | inr j ↦ q u j
-        ])
-
     -- a result's call stands in the block, and was not done
     no_result : (u : ValueRecord) → HasValue f b u → origin_of u.op.family ≡ result → IsReady b [] u → ⊥
     no_result u i o ready =
@@ -157,8 +143,8 @@ knows_entered s f h p b r place a w shown m n before same phis x known = go (def
         elim (known.settled u iu e) as (λ _. n x ≡ numbers p f (entered p f b place a w).env x) [
           | inl j ↦ elim j [ ]
           | inr q ↦ (elim q as (λ _. n x ≡ numbers p f (entered p f b place a w).env x) [
-              | inl k ↦ of_phi u iu e k
-              | inr k ↦ absurd (no_result u iu k.0 k.1)
+            | inl k ↦ of_phi u iu e k
+            | inr k ↦ absurd (no_result u iu k.0 k.1)
           ])
         ]
     go (inr out) =

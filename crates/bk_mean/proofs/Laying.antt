@@ -18,7 +18,7 @@ use Rattle.bk_func.specs.Form.Signatures.{Setting}
 use Rattle.bk_func.proofs.Faults.{In, in-filter, filter-in}
 use Rattle.bk_func.proofs.Flat.{Still, Laid, last, more}
 use Rattle.bk_func.proofs.Greedy.{Greedy, none, put}
-use Rattle.bk_mean.proofs.Named.{Once, to_in, to_contains, got_in, in_left, in_right}
+use Rattle.bk_mean.proofs.Named.{Once, to_in, to_contains, got_in, in_left, in_right, in_either}
 use Rattle.bk_mean.proofs.Roles.{checks, loads}
 use Rattle.bk_mean.proofs.Typed.{no_effect}
 use Rattle.bk_mean.proofs.Ranks.{rank, rank_below_room, needs_onward}
@@ -26,7 +26,7 @@ use Rattle.bk_mean.proofs.Needed.{need, needs_true, true_needs}
 use Rattle.bk_mean.proofs.States.{named_state, needs_named}
 use Rattle.bk_mean.proofs.Chains.{needs_apart}
 use Rattle.bk_mean.proofs.Follows.{Follows, numbers_of, at_some, some_at}
-use Rattle.bk_mean.proofs.Turns.{filter-append, in_either, order_greedy}
+use Rattle.bk_mean.proofs.Turns.{filter-append, order_greedy}
 use Rattle.bk_mean.proofs.Levels.{asks, acts, ask_no_phi, ask_acts, effect_acts, Timed, chain_at, state_value, at_number, one_place, level_at, effect_at, act_state, low_needs_not, IsClosedList, IsFree, needed_in, taker_in, Top, top}
 
 -- due no later, and due sooner

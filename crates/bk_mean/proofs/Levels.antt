@@ -14,7 +14,7 @@ use Rattle.bk_func.specs.Form.Signatures.{Setting}
 use Rattle.bk_func.proofs.Faults.{In}
 use Rattle.bk_func.proofs.Needs.{any_in, in_any}
 use Rattle.bk_ops.specs.declared.family.Family.TheVariants as op
-use Rattle.bk_mean.proofs.Named.{to_in, to_contains, got_in}
+use Rattle.bk_mean.proofs.Named.{to_in, to_contains, got_in, in_got}
 use Rattle.bk_mean.proofs.Roles.{loads, checks, no_phi, not_phi, check_args}
 use Rattle.bk_mean.proofs.Typed.{effect_is_state}
 use Rattle.bk_mean.proofs.Formed.{Sound}
@@ -167,15 +167,10 @@ level_at s f b m vs level class c j w e =
     let t = chain_at f b m vs c.chain j w e in
     one_place s f c.sound b c.reached m vs c.chain (level w) j t.0 (c.keys.at w t.2.0 (effect_acts w t.2.1) t.0 t.2.2) t.1
 
-in_place : {A : Type 0} (xs : List A) (x : A) → In x xs → (k : ℕ) × (slice_get xs k ≡ Some x)
-in_place [] x i = elim i [ ]
-in_place (y ∷ ys) x (inl e) = (0, ap Some e)
-in_place (y ∷ ys) x (inr i) = let r = in_place ys x i in (suc r.0, r.1)
-
 pub effect_at : (s : Setting) (f : FuncRecord) (b : BlockRecord) (m : ℕ) (vs : List ValueRecord) (level class : ValueRecord → ℕ) → Timed s f b m vs level class → (w : ValueRecord) → HasValue f b w → has_effect w ≡ true →
     slice_get vs (level w) ≡ Some w
 effect_at s f b m vs level class c w i e =
-    let q = in_place vs w (c.all w i e) in
+    let q = in_got vs w (c.all w i e) in
     (let P : ℕ → Type 0 = λ k. slice_get vs k ≡ Some w in subst P (sym (level_at s f b m vs level class c q.0 w q.1)) q.1)
 
 -- a value that is done at a state names one

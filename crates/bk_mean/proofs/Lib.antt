@@ -7,6 +7,7 @@ pub mod Edges
 pub mod Filling
 pub mod Follows
 pub mod Formed
+pub mod Knowing
 pub mod Laying
 pub mod Levels
 pub mod Longest
@@ -16,8 +17,7 @@ pub mod Ranks
 pub mod Roles
 pub mod States
 pub mod Steady
+pub mod Tables
 pub mod Turns
 pub mod Typed
 pub mod Walked
-pub mod Tables
-pub mod Knowing

@@ -1,8 +1,8 @@
 -- In a function whose numbers name one thing each, a number names one value of one block.
-use Rattle.std.proofs.Common.{◌≡◌, ℕ, zero, suc, ◌<◌, ◌≤◌, ◌==◌, refl, ap, sym, ◌∙◌, subst, arith, ◌⊎◌, inl, inr, List, [], ◌∷◌, ◌++◌, Some, None, Bool, true, false, cond, eq-eqb}
-use Rattle.std.specs.Prelude.{flat_map, find, sum_by, count_by, slice_get}
+use Rattle.std.proofs.Common.{◌≡◌, ℕ, zero, suc, ◌<◌, ◌≤◌, ◌==◌, refl, ap, sym, ◌∙◌, subst, arith, ◌⊎◌, inl, inr, List, [], ◌∷◌, ◌++◌, map, Some, None, Bool, true, false, cond, eq-eqb}
+use Rattle.std.specs.Prelude.{slice_index, flat_map, find, sum_by, count_by, slice_get}
 use Rattle.std.specs.List.{Contains}
-use Rattle.std.proofs.lemmas.Bool.{eqb-true}
+use Rattle.std.proofs.lemmas.Bool.{eqb-true, cases_eq}
 use Rattle.std.proofs.lemmas.List.Sums.{sum_by-cons}
 use Rattle.bk_func.specs.Records.{ValueRecord, BlockRecord, FuncRecord}
 use Rattle.bk_func.specs.Numbers.{values_of, value_in, value_of}
@@ -41,7 +41,7 @@ pub in_right : {A : Type 0} (x : A) (xs ys : List A) → In x ys → In x (xs ++
 in_right x [] ys i = i
 in_right x (z ∷ xs) ys i = inr (in_right x xs ys i)
 
-in_either : {A : Type 0} (x : A) (xs ys : List A) → In x (xs ++ ys) → In x xs ⊎ In x ys
+pub in_either : {A : Type 0} (x : A) (xs ys : List A) → In x (xs ++ ys) → In x xs ⊎ In x ys
 in_either x [] ys i = inr i
 in_either {A} x (z ∷ xs) ys (inl e) = inl (inl e)
 in_either {A} x (z ∷ xs) ys (inr i) = go (in_either x xs ys i)
@@ -49,6 +49,36 @@ in_either {A} x (z ∷ xs) ys (inr i) = go (in_either x xs ys i)
     go : In x xs ⊎ In x ys → In x (z ∷ xs) ⊎ In x ys
     go (inl j) = inl (inr j)
     go (inr j) = inr j
+
+-- the place of a member, and a number at a place
+pub in_got : {A : Type 0} (xs : List A) (x : A) → In x xs → (k : ℕ) × (slice_get xs k ≡ Some x)
+in_got [] x i = elim i [ ]
+in_got (y ∷ ys) x (inl e) = (0, ap Some e)
+in_got (y ∷ ys) x (inr i) = let r = in_got ys x i in (suc r.0, r.1)
+
+pub got_index : (xs : List ℕ) (k n : ℕ) → slice_get xs k ≡ Some n → slice_index xs k ≡ n
+got_index [] k n e = absurd cc
+got_index (x ∷ xs) zero n e = cc
+got_index (x ∷ xs) (suc k) n e = got_index xs k n e
+
+pub id_in : (v : ValueRecord) (vs : List ValueRecord) → In v vs → In v.id (map (λ v. v.id) vs)
+id_in v [] i = elim i [ ]
+id_in v (u ∷ us) (inl e) = inl (ap (λ (x : ValueRecord). x.id) e)
+id_in v (u ∷ us) (inr i) = inr (id_in v us i)
+
+-- a value of the list bears the number, or none does
+pub borne : (vs : List ValueRecord) (n : ℕ) → ((u : ValueRecord) × In u vs × (u.id ≡ n)) ⊎ ((u : ValueRecord) → In u vs → ¬ (u.id ≡ n))
+borne [] n = inr (λ u i. elim i [ ])
+borne (x ∷ xs) n = go (cases_eq x.id n) (borne xs n)
+  where
+    go : (x.id ≡ n) ⊎ (x.id ≡ n → ⊥) → ((u : ValueRecord) × In u xs × (u.id ≡ n)) ⊎ ((u : ValueRecord) → In u xs → ¬ (u.id ≡ n)) →
+        ((u : ValueRecord) × In u (x ∷ xs) × (u.id ≡ n)) ⊎ ((u : ValueRecord) → In u (x ∷ xs) → ¬ (u.id ≡ n))
+    go (inl e) q = inl (x, inl refl, e)
+    go (inr k) (inl (u, i, e)) = inl (u, inr i, e)
+    go (inr k) (inr q) = inr (λ u i. elim i as (λ _. ¬ (u.id ≡ n)) [
+      | inl d ↦ (let P : ValueRecord → Type 0 = λ z. ¬ (z.id ≡ n) in subst P d k)
+      | inr j ↦ q u j
+    ])
 
 to_flat : {A B : Type 0} (h : A → List B) (a : A) (b : B) (xs : List A) → In a xs → In b (h a) → In b (flat_map h xs)
 to_flat h a b [] i j = elim i [ ]

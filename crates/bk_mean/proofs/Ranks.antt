@@ -14,7 +14,7 @@ use Rattle.bk_func.specs.Form.Signatures.{Setting}
 use Rattle.bk_func.proofs.Faults.{In}
 use Rattle.bk_func.proofs.Needs.{BlockRanked, found_in}
 use Rattle.bk_func.proofs.Unique.{inputs_by, inputs_of, Ranked, Solves, solved}
-use Rattle.bk_mean.proofs.Named.{IsNamed, to_contains, got_in, one_or_two, found_value, found_here}
+use Rattle.bk_mean.proofs.Named.{IsNamed, to_contains, got_in, one_or_two, found_value, found_here, id_in}
 use Rattle.bk_mean.proofs.Dominance.{Dominates, dominates_onward, one_dominates, defined_here, Home, home, arguments_defined}
 use Rattle.bk_mean.proofs.Longest.{deep, Falls, rank_few, rank_falls}
 use Rattle.bk_mean.proofs.Roles.{HasRow, no_phi, not_phi, load_args, check_args, copy_args, same_copies, first_argument}
@@ -180,11 +180,6 @@ argument_below s f h b v i r p x j =
 abbrev names : FuncRecord → List ℕ
 names f = map (λ v. v.id) (values_of f)
 
-in_map : (v : ValueRecord) (vs : List ValueRecord) → In v vs → In v.id (map (λ v. v.id) vs)
-in_map v [] i = elim i [ ]
-in_map v (u ∷ us) (inl e) = inl (ap (λ (x : ValueRecord). x.id) e)
-in_map v (u ∷ us) (inr i) = inr (in_map v us i)
-
 same_room : (f : FuncRecord) → length (names f) ≡ room f
 same_room f = length-map (values_of f) (λ (v : ValueRecord). v.id)
 
@@ -201,7 +196,7 @@ falls_down s f h = record {
 }
   where
     bears : (n : ℕ) → IsLive f n → In n (names f)
-    bears n l = (let P : ℕ → Type 0 = λ x. In x (names f) in subst P l.named (in_map l.value (values_of f) (found_in (values_of f) n l.value (live_found f h.named n l)).0))
+    bears n l = (let P : ℕ → Type 0 = λ x. In x (names f) in subst P l.named (id_in l.value (values_of f) (found_in (values_of f) n l.value (live_found f h.named n l)).0))
 
     step : (n x : ℕ) → IsLive f n → In x (taken f n) → IsLive f x × Below f x n
     step n x l i =

@@ -12,7 +12,7 @@ use Rattle.bk_func.specs.Form.States.{CopiesMemory, StandsFor, itself, copied as
 use Rattle.bk_func.specs.Form.Before.{Needs, takes}
 use Rattle.bk_func.specs.Form.Signatures.{Setting}
 use Rattle.bk_func.proofs.Faults.{In}
-use Rattle.bk_mean.proofs.Named.{IsNamed, to_contains, got_in, found_value}
+use Rattle.bk_mean.proofs.Named.{IsNamed, to_contains, got_in, found_value, got_index}
 use Rattle.bk_mean.proofs.Dominance.{Dominates, dominates_itself, dominates_onward, one_dominates, defined_from, defined_here, home, arguments_defined}
 use Rattle.bk_mean.proofs.Roles.{is_memory_copy-true, is_memory_copy-false, memory_copy, result_args, copy_args, result_families, first_argument}
 use Rattle.bk_mean.proofs.Formed.{Sound}
@@ -32,11 +32,6 @@ no_copy (suc k) f v h b i c = rw (found_value f h b v v.id i refl, is_memory_cop
 
 copy_source : (s : Setting) (f : FuncRecord) → Sound s f → (b : BlockRecord) (v : ValueRecord) → HasValue f b v → CopiesMemory v → slice_get v.args 0 ≡ Some (slice_index v.args 0)
 copy_source s f h b v i c = first_argument v 0 (copy_args s f b v (h.rows b v i) c.0).0
-
-got_index : (xs : List ℕ) (k n : ℕ) → slice_get xs k ≡ Some n → slice_index xs k ≡ n
-got_index [] k n e = absurd cc
-got_index (x ∷ xs) zero n e = cc
-got_index (x ∷ xs) (suc k) n e = got_index xs k n e
 
 -- going through copies gives what a live number stands for
 pub memory_stands : (s : Setting) (f : FuncRecord) → Sound s f → (k n m : ℕ) → IsLive f n → rank f n < k → StandsFor f n m → memory_at k f n ≡ m

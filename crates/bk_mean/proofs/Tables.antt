@@ -1,10 +1,9 @@
 -- Numbers that are known at a turn of a block: which stay, which are taken, and which come.
-use Rattle.std.proofs.Common.{◌≡◌, ℕ, zero, suc, ◌+◌, ◌<◌, refl, ap, sym, ◌∙◌, subst, arith, ◌⊎◌, inl, inr, List, [], ◌∷◌, ◌++◌, length, map, Option, Some, None, Bool, true, false, cond}
+use Rattle.std.proofs.Common.{◌≡◌, ℕ, refl, ap, sym, ◌∙◌, subst, arith, ◌⊎◌, inl, inr, List, [], ◌∷◌, ◌++◌, length, map, Some, Bool, true, false}
 use Rattle.std.specs.Prelude.{ℤ, is_some, if◌then◌else◌, unwrap_or, slice_index, slice_get}
 use Rattle.std.specs.List.{Contains}
-use Rattle.std.proofs.lemmas.Bool.{cases_eq}
 use Rattle.bk_ops.specs.Formulas.{Formula, no_value, formula, arm_formula, rv_formula}
-use Rattle.bk_ops.specs.Values.{op_value, valued}
+use Rattle.bk_ops.specs.Values.{valued}
 use Rattle.bk_ops.specs.declared.types.Target.{Target}
 use Rattle.bk_ops.specs.declared.types.Ty.{Ty}
 use Rattle.bk_ops.specs.declared.family.Family.{Family}
@@ -12,28 +11,24 @@ use Rattle.bk_ops.specs.declared.family.Family.TheVariants as op
 use Rattle.bk_ops.specs.declared.family.ArmOp.TheVariants as arm
 use Rattle.bk_ops.specs.declared.family.RvOp.TheVariants as rv
 use Rattle.bk_func.specs.Records.{ValueRecord, BlockRecord, FuncRecord}
-use Rattle.bk_func.specs.Numbers.{Program, Env, Origin, phi, result, computed, origin_of, value_of, numbers, natural, number_of, number_by}
-use Rattle.bk_func.specs.Effects.{effect_of, has_effect, is_phi}
-use Rattle.bk_func.specs.Meaning.{World, Run, gives, stops, Activation, Calls, done_at, halted, fault_at, entered}
-use Rattle.bk_func.specs.Form.Text.{HasBlock, HasValue, Defines, IsPhi}
+use Rattle.bk_func.specs.Numbers.{Program, Env, Origin, result, computed, origin_of, numbers, number_of, number_by}
+use Rattle.bk_func.specs.Effects.{effect_of, has_effect}
+use Rattle.bk_func.specs.Meaning.{World, Run, gives, stops, Activation, Calls, done_at, halted, fault_at}
+use Rattle.bk_func.specs.Form.Text.{HasValue, Defines, IsPhi}
 use Rattle.bk_func.specs.Form.Walks.{IsReached, IsDefinedAt}
 use Rattle.bk_func.specs.Form.Before.{IsTakenBy, Needs, takes, through}
 use Rattle.bk_func.specs.Form.Signatures.{Setting}
 use Rattle.bk_func.proofs.Faults.{In}
 use Rattle.bk_func.proofs.Flat.{one}
 use Rattle.bk_func.proofs.Unique.{solved}
-use Rattle.bk_mean.proofs.Named.{Once, to_in, to_contains, got_in, found_value, in_left, in_right}
-use Rattle.bk_mean.proofs.Dominance.{defined_here, arguments_defined, reached_block}
-use Rattle.bk_mean.proofs.Roles.{not_phi, result_args, result_families, first_argument}
+use Rattle.bk_mean.proofs.Named.{Once, to_in, to_contains, got_in, found_value, in_either, borne}
+use Rattle.bk_mean.proofs.Dominance.{defined_here, arguments_defined}
+use Rattle.bk_mean.proofs.Roles.{result_args, result_families, first_argument}
 use Rattle.bk_mean.proofs.Formed.{Sound}
 use Rattle.bk_mean.proofs.Ranks.{IsLive, rank, ranks}
-use Rattle.bk_mean.proofs.Steady.{Agree}
-use Rattle.bk_mean.proofs.Along.{IfGives, IsShown, entered_steady, done_steady}
-use Rattle.bk_mean.proofs.Edges.{phi_entered}
-use Rattle.bk_mean.proofs.Turns.{in_either}
-use Rattle.bk_mean.proofs.Levels.{IsClosedList}
+use Rattle.bk_mean.proofs.Along.{IfGives, done_steady}
 use Rattle.bk_mean.proofs.Laying.{Filled}
-use Rattle.bk_mean.proofs.Filling.{filled_in, filled_once, filled_after, done_closed, done_needs_not, once_parts, halted_same, result_number}
+use Rattle.bk_mean.proofs.Filling.{filled_once, filled_after, done_needs_not, once_parts, halted_same}
 
 -- what the value takes in its block was done
 abbrev pub IsReady : BlockRecord → List ValueRecord → ValueRecord → Type 0
@@ -166,24 +161,8 @@ module _ (s : Setting) (f : FuncRecord) (b : BlockRecord) (level class : ValueRe
 
   -- what is known after the turn was known before it, or is the value, or a result of it
   pub known_after : (n : ℕ) → IsKnown f b (pre ++ v ∷ []) n → IsKnown f b pre n ⊎ (v.id ≡ n) ⊎ ((u : ValueRecord) × HasValue f b u × (u.id ≡ n) × (origin_of u.op.family ≡ result) × (slice_index u.args 0 ≡ v.id))
-  known_after n known = cases (defines b.values n)
+  known_after n known = cases (borne b.values n)
     where
-      defines : (vs : List ValueRecord) (n : ℕ) → ((u : ValueRecord) × In u vs × (u.id ≡ n)) ⊎ ((u : ValueRecord) → In u vs → ¬ (u.id ≡ n))
-      defines [] n = inr (λ u i. elim i [ ])
-      defines (x ∷ xs) n = by (cases_eq x.id n) (defines xs n)
-        where
-          by : (x.id ≡ n) ⊎ (x.id ≡ n → ⊥) → ((u : ValueRecord) × In u xs × (u.id ≡ n)) ⊎ ((u : ValueRecord) → In u xs → ¬ (u.id ≡ n)) →
-              ((u : ValueRecord) × In u (x ∷ xs) × (u.id ≡ n)) ⊎ ((u : ValueRecord) → In u (x ∷ xs) → ¬ (u.id ≡ n))
-          by (inl e) r = inl (x, inl refl, e)
-          by (inr k) (inl (u, i, e)) = inl (u, inr i, e)
-          by (inr k) (inr h) = inr (λ u i. elim i as (λ _. ¬ (u.id ≡ n)) [
-              | inl d ↦ (let P : ValueRecord → Type 0 = λ z. ¬ (z.id ≡ n) in subst P d k)
-              | inr j ↦ h u j
-          ])
-
-
-
-
       -- a value of the block with the number is the one
       only : (u : ValueRecord) → HasValue f b u → u.id ≡ n → IsSettled b pre u → IsKnown f b pre n
       only u i e k = record {
@@ -208,9 +187,12 @@ module _ (s : Setting) (f : FuncRecord) (b : BlockRecord) (level class : ValueRe
           alone (y ∷ z ∷ xs) l x j = absurd (omega (arith, l))
 
           pick : (t : ValueRecord) → HasValue f b t → t.id ≡ slice_index u.args 0 → In t pre ⊎ In t (v ∷ []) → IsKnown f b pre n ⊎ (v.id ≡ n) ⊎ ((u : ValueRecord) × HasValue f b u × (u.id ≡ n) × (origin_of u.op.family ≡ result) × (slice_index u.args 0 ≡ v.id))
-          pick t it d (inl j) = inl (only u i e (inr (inr (o, λ x k.
-              let same = c.sound.named.same_value b b t x it (c.stands.0, k.0) (d ∙ sym (alone u.args one_arg x.id (to_in x.id u.args k.3))) in
-              (let P : ValueRecord → Type 0 = λ z. In z pre in subst P same j)))))
+          pick t it d (inl j) = inl (only u i e (inr (inr (
+            o,
+            λ x k.
+                let same = c.sound.named.same_value b b t x it (c.stands.0, k.0) (d ∙ sym (alone u.args one_arg x.id (to_in x.id u.args k.3))) in
+                (let P : ValueRecord → Type 0 = λ z. In z pre in subst P same j),
+          ))))
           pick t it d (inr (inl q)) = inr (inr (u, i, e, o, sym d ∙ ap (λ (z : ValueRecord). z.id) (sym q)))
           pick t it d (inr (inr j)) = elim j [ ]
 

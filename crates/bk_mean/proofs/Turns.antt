@@ -13,7 +13,7 @@ use Rattle.bk_func.specs.Form.Before.{Needs, Checks, ComesBefore, checks as chec
 use Rattle.bk_func.specs.Form.Signatures.{Setting}
 use Rattle.bk_func.proofs.Faults.{In, in-filter, first_fault-append, none_of}
 use Rattle.bk_func.proofs.Greedy.{after, Closed, Greedy, greedy_first}
-use Rattle.bk_mean.proofs.Named.{to_contains, in_left, in_right}
+use Rattle.bk_mean.proofs.Named.{to_contains, in_left, in_right, in_either, in_got}
 use Rattle.bk_mean.proofs.Roles.{checks}
 use Rattle.bk_mean.proofs.Formed.{Sound}
 use Rattle.bk_mean.proofs.Ranks.{rank, rank_below_room, needs_precede, needs_onward, behind}
@@ -66,11 +66,6 @@ none_left : {A : Type 0} (xs : List A) → length xs ≤ 0 → xs ≡ []
 none_left [] l = refl
 none_left (x ∷ xs) l = absurd (omega arith)
 
-pub in_either : {A : Type 0} (x : A) (xs ys : List A) → In x (xs ++ ys) → In x xs ⊎ In x ys
-in_either x [] ys i = inr i
-in_either {A} x (z ∷ xs) ys (inl e) = inl (inl e)
-in_either {A} x (z ∷ xs) ys (inr i) = elim (in_either x xs ys i) as (λ _. In x (z ∷ xs) ⊎ In x ys) [ inl j ↦ inl (inr j) | inr j ↦ inr j ]
-
 -- a list as two, and as one before and one after an element
 record InFirst {A : Type 0} (xs ys pre : List A) (x : A) (post : List A) : Type 0 where
   more : List A
@@ -106,11 +101,6 @@ record InTurn {A : Type 0} (xs : List A) (x y : A) : Type 0 where
 
 later : {A : Type 0} (z : A) (xs : List A) (x y : A) → InTurn xs x y → InTurn (z ∷ xs) x y
 later z xs x y q = record { first = suc q.first; second = suc q.second; less = omega (arith, q.less); has_first = q.has_first; has_second = q.has_second }
-
-in_got : {A : Type 0} (xs : List A) (x : A) → In x xs → (k : ℕ) × (slice_get xs k ≡ Some x)
-in_got [] x i = elim i [ ]
-in_got (y ∷ ys) x (inl e) = (0, ap Some e)
-in_got (y ∷ ys) x (inr i) = let r = in_got ys x i in (suc r.0, r.1)
 
 filter_turn : {A : Type 0} (t : A → Bool) (xs pre : List A) (x : A) (more : List A) (y : A) → filter t xs ≡ pre ++ x ∷ more → In y more → InTurn xs x y
 filter_turn t [] [] x more y e i = absurd cc
