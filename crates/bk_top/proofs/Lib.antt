@@ -25,6 +25,7 @@ pub mod Numbers
 pub mod Calls
 pub mod Shown
 pub mod Endings
+pub mod Named
 pub mod Actions
 pub mod Counts
 pub mod Adding

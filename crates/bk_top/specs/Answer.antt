@@ -12,7 +12,7 @@ use Rattle.bk_dump.specs.Generate.{generated}
 use Rattle.bk_top.specs.declared.refusal.Refusal.{Refusal}
 use Rattle.bk_top.specs.declared.refusal.Refusal.TheVariants.{Words, ReadFault, TooLong, Syntax, Limit, Duplicate, Undefined, FormFault, NotYet, Object, Function, Arguments, WriteFault, Memory}
 use Rattle.bk_top.specs.Narrow.{Narrow, IsNarrow}
-use Rattle.bk_top.specs.Commands.{CommandRecord, compile_row, check_row, generate_row, run_row, Asks}
+use Rattle.bk_top.specs.Commands.{CommandRecord, compile_row, check_row, generate_row, run_row, evaluate_row, Asks}
 use Rattle.bk_top.specs.Refusals.{status, line}
 use Rattle.bk_top.specs.Sums.{is_sums}
 use Rattle.bk_top.specs.Routine.{routine_of_narrow, routine_of}
@@ -20,6 +20,7 @@ use Rattle.bk_top.specs.Meaning.{meaning, Returns}
 use Rattle.bk_top.specs.Pieces.{narrow_piece, func_piece, name_in, object_of, AreNamed}
 use Rattle.bk_top.specs.Runs.{Serves}
 use Rattle.bk_top.specs.Running.{Runs, LacksFunction, Misfits}
+use Rattle.bk_top.specs.Evaluating.{Evaluates, LacksNamed, MisfitsNamed}
 
 -- the text is within the limit of narrow texts and spells a list of narrow functions
 abbrev pub IsNarrowText : List ℕ → Type 0
@@ -61,6 +62,7 @@ Makes compile_row input bytes = IfSome input (λ text. Compiles text bytes)
 Makes (check_row target) input bytes = Checks bytes
 Makes (generate_row n) input bytes = bytes ≡ text_of (generated n)
 Makes (run_row call) input bytes = IfSome input (λ object. Runs call object bytes)
+Makes (evaluate_row target call) input bytes = Evaluates target call bytes
 
 -- a command that reads its input
 abbrev pub ReadsInput : CommandRecord → Type 0
@@ -68,6 +70,7 @@ ReadsInput compile_row = Unit {0}
 ReadsInput (check_row target) = Unit {0}
 ReadsInput (generate_row n) = ⊥
 ReadsInput (run_row call) = Unit {0}
+ReadsInput (evaluate_row target call) = Unit {0}
 
 -- the most bytes of a package text and of an object
 abbrev pub text_limit : ℕ
@@ -82,6 +85,7 @@ input_limit compile_row = text_limit
 input_limit (check_row target) = text_limit
 input_limit (generate_row n) = text_limit
 input_limit (run_row call) = object_limit
+input_limit (evaluate_row target call) = text_limit
 
 -- a text that a command leaves to the reader of packages
 abbrev pub IsLeft : CommandRecord → List ℕ → Type 0
@@ -89,6 +93,7 @@ IsLeft compile_row text = IsNarrowText text → ⊥
 IsLeft (check_row target) text = Unit {0}
 IsLeft (generate_row n) text = ⊥
 IsLeft (run_row call) text = ⊥
+IsLeft (evaluate_row target call) text = Unit {0}
 
 -- the command makes code, and the package that was read is none of sums, or has names that no object holds
 abbrev pub IsNotYet : CommandRecord → Type 0
@@ -96,6 +101,7 @@ IsNotYet compile_row = (p : PackageRecord) × ((is_sums p ≡ false) ⊎ (AreNam
 IsNotYet (check_row target) = ⊥
 IsNotYet (generate_row n) = ⊥
 IsNotYet (run_row call) = ⊥
+IsNotYet (evaluate_row target call) = ⊥
 
 -- the command runs a function of an object, and its input is none
 abbrev pub IsNoObject : CommandRecord → List ℕ → LoadError → Type 0
@@ -103,6 +109,7 @@ IsNoObject compile_row text e = ⊥
 IsNoObject (check_row target) text e = ⊥
 IsNoObject (generate_row n) text e = ⊥
 IsNoObject (run_row call) text e = loaded text ≡ Err e
+IsNoObject (evaluate_row target call) text e = ⊥
 
 -- the command calls a function that is not there
 abbrev pub HasNone : CommandRecord → List ℕ → Type 0
@@ -110,6 +117,7 @@ HasNone compile_row text = ⊥
 HasNone (check_row target) text = ⊥
 HasNone (generate_row n) text = ⊥
 HasNone (run_row call) text = LacksFunction call text
+HasNone (evaluate_row target call) text = LacksNamed call
 
 -- the command calls a function by words that do not fit it
 abbrev pub HasOthers : CommandRecord → List ℕ → Type 0
@@ -117,6 +125,7 @@ HasOthers compile_row text = ⊥
 HasOthers (check_row target) text = ⊥
 HasOthers (generate_row n) text = ⊥
 HasOthers (run_row call) text = Misfits call text
+HasOthers (evaluate_row target call) text = MisfitsNamed target call
 
 -- a refusal of a command's text
 abbrev pub Spoils : CommandRecord → List ℕ → Refusal → Type 0

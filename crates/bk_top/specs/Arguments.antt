@@ -1,4 +1,4 @@
--- The numbers that words give to the arguments of a function.
+-- What a call of a function begins with: its stack, and the numbers that words give to its arguments.
 use Rattle.std.specs.Prelude.{◌≡◌, ℕ, ℤ, pos, negsuc, ◌^◌, ◌-◌, ◌<◌, List, [], ◌∷◌}
 use Rattle.std.specs.Fmt.{signed_decimal}
 use Rattle.bk_num.specs.Word.{residue}
@@ -6,6 +6,10 @@ use Rattle.bk_ops.specs.Types.{width_of}
 use Rattle.bk_ops.specs.declared.types.Target.{Target}
 use Rattle.bk_ops.specs.declared.types.Ty.{Ty}
 use Rattle.bk_ops.specs.declared.types.Ty.TheVariants as ty
+
+-- the bytes of stack that a call begins with
+unfoldable pub own_stack : ℕ
+own_stack = 65536
 
 -- a number that w bits spell, without a sign or with one
 abbrev pub FitsBits : ℕ → ℤ → Type 0

@@ -7,6 +7,7 @@ pub mod Commands
 pub mod Arguments
 pub mod Outcomes
 pub mod Running
+pub mod Evaluating
 pub mod Refusals
 pub mod Sums
 pub mod Routine

@@ -8,20 +8,22 @@ use Rattle.bk_ops.specs.declared.types.Ty.{Ty}
 use Rattle.bk_ops.specs.declared.types.Ty.TheVariants as ty
 use Rattle.bk_dump.specs.Print.{hex}
 use Rattle.bk_top.specs.declared.rows.outcome.Outcome.{Outcome}
-use Rattle.bk_top.specs.declared.rows.outcome.Outcome.TheVariants.{Returned, Trapped, Going, Fault}
+use Rattle.bk_top.specs.declared.rows.outcome.Outcome.TheVariants.{Returned, Trapped, Going, Fault, Wild}
 
--- how a call ends: with numbers, by a trap, not yet, or at an address
+-- how a call ends: with numbers, by a trap, not yet, or at an address that a machine or the meaning does not have
 pub data OutcomeRecord : Type 0 where
   returned : List ℕ → OutcomeRecord
   trapped : ℕ → OutcomeRecord
   going : OutcomeRecord
   fault : ℕ → OutcomeRecord
+  wild : ℕ → OutcomeRecord
 
 abbrev pub seen_outcome : Outcome → OutcomeRecord
 seen_outcome (Returned numbers) = returned numbers.items
 seen_outcome (Trapped number) = trapped number
 seen_outcome Going = going
 seen_outcome (Fault address) = fault address
+seen_outcome (Wild address) = wild address
 
 abbrev pub is_signed : Ty → Bool
 is_signed ty.Int8 = true
@@ -61,6 +63,7 @@ outcome_part target types (returned numbers) = codes "returned" ++ shown_all tar
 outcome_part target types (trapped number) = codes "trapped " ++ (decimal number ++ (codes " " ++ trap_name number))
 outcome_part target types going = codes "going"
 outcome_part target types (fault address) = codes "fault " ++ decimal address
+outcome_part target types (wild address) = codes "wild " ++ decimal address
 
 -- bytes in hexadecimal
 unfoldable pub hex_all : List ℕ → List ℕ

@@ -19,12 +19,8 @@ use Rattle.bk_arm_isa.specs.Machine as arm
 use Rattle.bk_arm_sim.specs.View as arm_view
 use Rattle.bk_arm_sim.specs.Results as arm_results
 use Rattle.bk_top.specs.Commands.{CallRecord}
-use Rattle.bk_top.specs.Arguments.{Gives, DoNotFit}
+use Rattle.bk_top.specs.Arguments.{own_stack, Gives, DoNotFit}
 use Rattle.bk_top.specs.Outcomes.{OutcomeRecord, returned, trapped, going, fault, outcome_line, first_numbers}
-
--- the bytes of stack that a call begins with
-unfoldable pub own_stack : ℕ
-own_stack = 65536
 
 -- how a machine ended that stopped so: the results are the numbers in their words
 abbrev pub riscv_outcome : SigRecord → riscv.Machine → RiscvStop → OutcomeRecord

@@ -1,7 +1,7 @@
 //! What the program makes of its command and its input.
 
 ghost use Rattle.std.specs.Prelude.{◌≡◌, IfOk, IfErr};
-ghost use Rattle.bk_top.specs.Commands.{compile_row, check_row, run_row, seen_call, seen, IsInRange};
+ghost use Rattle.bk_top.specs.Commands.{compile_row, check_row, run_row, evaluate_row, seen_call, seen, IsInRange};
 ghost use Rattle.bk_top.specs.Answer.{Makes, Stems, ReadsInput};
 
 use crate::command::Command;
@@ -9,6 +9,7 @@ use crate::command::call::Call;
 use crate::refusal::Refusal;
 use crate::rows::check::check;
 use crate::rows::compile::compile;
+use crate::rows::evaluate::evaluate;
 use crate::rows::generate::generated_text;
 use crate::rows::input::{OBJECT_LIMIT, TEXT_LIMIT, bytes_of};
 use crate::rows::run::run;
@@ -43,6 +44,20 @@ fn answer_run<S: Source>(alloc: Global, input: &mut S, call: Call<'_>) -> Result
     run(alloc, &object, call)
 }
 
+/// `eval`, from the input.
+fn answer_evaluate<S: Source>(
+    alloc: Global,
+    input: &mut S,
+    target: Target,
+    call: Call<'_>,
+) -> Result<Vec<u8>, Refusal>
+    ensures made { IfOk result (λ bytes. Makes (evaluate_row target (seen_call call.entry)) (S.left input.old) bytes.items) }
+    ensures cause { IfErr result (Stems (evaluate_row target (seen_call call.entry)) (S.left input.old) (S.faults input.old) (S.faults input.new)) }
+{
+    let text = bytes_of(alloc, input, TEXT_LIMIT)?;
+    evaluate(alloc, &text, target, call)
+}
+
 /// The bytes that a command asks for.
 pub fn answer<S: Source>(
     alloc: Global,
@@ -58,6 +73,7 @@ pub fn answer<S: Source>(
         Command::Compile => answer_compile(alloc, input),
         Command::Check(target) => answer_check(alloc, input, target),
         Command::Run(call) => answer_run(alloc, input, call),
+        Command::Evaluate(target, call) => answer_evaluate(alloc, input, target, call),
         Command::Generate(count) => match generated_text(alloc, count) {
             Ok(text) => Ok(text),
             Err(_) => Err(Refusal::Memory),

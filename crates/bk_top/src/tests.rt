@@ -10,12 +10,15 @@ use bk_io::{MemSink, MemSource, Memory, Open};
 use objects::ARM;
 use std::alloc::{AllocError, Global};
 use std::test::Fail;
-use texts::{ADD, ADD_CODE, CONSTANT, DROPPED, LOOP, NO_SUCH, TURNED, TURNED_CODE, TWICE, USE};
+use texts::{
+    ADD, ADD_CODE, CONSTANT, DROPPED, LEQ, LOOP, NO_SUCH, STORE, SWAP, TURNED, TURNED_CODE, TWICE,
+    USE,
+};
 
 /// The words, the input, and what they leave: the status and the texts on the output and on the error stream.
 struct Row(&'static str, &'static str, u8, &'static str, &'static str);
 
-const TEXTS: [Row; 33] = [
+const TEXTS: [Row; 49] = [
     Row("check arm", "", 0, "ok 0 functions 0 values\n", ""),
     Row("check riscv64", ADD, 0, "ok 1 functions 5 values\n", ""),
     Row(
@@ -73,6 +76,82 @@ const TEXTS: [Row; 33] = [
         "object: truncated\n",
     ),
     Row("run add 10 1 2", ADD, 8, "", "object: not ELF\n"),
+    Row(
+        "eval riscv64 swap 9 3 10 20",
+        SWAP,
+        0,
+        "returned 20 10\n",
+        "",
+    ),
+    Row("eval riscv64 swap 8 3 10 20", SWAP, 0, "going\n", ""),
+    Row(
+        "eval arm st 10 0 9",
+        STORE,
+        0,
+        "trapped 1 nil data 0102030405060708\n",
+        "",
+    ),
+    Row(
+        "eval riscv64 st 10 67108864 9",
+        STORE,
+        0,
+        "returned data 0900000005060708\n",
+        "",
+    ),
+    Row(
+        "eval arm st 10 67108870 9",
+        STORE,
+        0,
+        "wild 67108870 data 0102030405060708\n",
+        "",
+    ),
+    Row(
+        "eval arm leq 10 4294967295 4294967296",
+        LEQ,
+        0,
+        "returned true\n",
+        "",
+    ),
+    Row(
+        "eval arm leq 10 4294967296 4294967295",
+        LEQ,
+        0,
+        "returned false\n",
+        "",
+    ),
+    Row(
+        "eval riscv64 main.sum 100 67108864 3",
+        LOOP,
+        0,
+        "returned 6 data 010000000000000002000000000000000300000000000000\n",
+        "",
+    ),
+    Row(
+        "eval riscv64 main.sum 100 67108864 -1",
+        LOOP,
+        0,
+        "returned 0 data 010000000000000002000000000000000300000000000000\n",
+        "",
+    ),
+    Row(
+        "eval riscv64 main.sum 100 67108864",
+        LOOP,
+        10,
+        "",
+        "arguments\n",
+    ),
+    Row("eval arm st 10 4294967296 9", STORE, 10, "", "arguments\n"),
+    Row("eval arm st 10 0 -2147483649", STORE, 10, "", "arguments\n"),
+    Row(
+        "eval riscv64 main.su 100 67108864 3",
+        LOOP,
+        10,
+        "",
+        "function\n",
+    ),
+    Row("eval arm q 1", NO_SUCH, 3, "", "undefined nosuch\n"),
+    Row("eval mips st 10 0 9", STORE, 2, "", "words\n"),
+    Row("eval arm st", STORE, 2, "", "words\n"),
 ];
 
 /// Where reads and writes fail: the number of a read, and the room of the sinks.

@@ -22,6 +22,8 @@ pub enum Command<'a> {
     Generate(u64),
     /// `run NAME BOUND ARG..`: how a call of a function of the object that is read ends.
     Run(Call<'a>),
+    /// `eval TARGET NAME BOUND ARG..`: how a call of a function of the package that is read ends.
+    Evaluate(Target, Call<'a>),
 }
 
 /// The most functions of a generated package.
@@ -98,6 +100,15 @@ fn run(others: &[String]) -> Option<Command<'_>>
     Some(Command::Run(call_of(others)?))
 }
 
+fn evaluate(others: &[String]) -> Option<Command<'_>>
+    ensures found { IfSome result (λ c. Asks (codes "eval" ∷ map string_bytes others.now) (seen c)) }
+    ensures none { IfNone result ((c : CommandRecord) → Asks (codes "eval" ∷ map string_bytes others.now) c → ⊥) }
+{
+    let (target, words) = others.split_first()?;
+    let target = target_of(target)?;
+    Some(Command::Evaluate(target, call_of(words)?))
+}
+
 /// The command of the words; None where they are in no row.
 pub fn command_of(words: &[String]) -> Option<Command<'_>>
     ensures found { IfSome result (λ c. Asks (map string_bytes words.now) (seen c)) }
@@ -112,6 +123,8 @@ pub fn command_of(words: &[String]) -> Option<Command<'_>>
         generate(others)
     } else if is_text(name, "run") {
         run(others)
+    } else if is_text(name, "eval") {
+        evaluate(others)
     } else {
         None
     }

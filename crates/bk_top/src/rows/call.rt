@@ -1,12 +1,21 @@
-//! The numbers that words give to the arguments of a function.
+//! What a call of a function begins with: its stack, and the numbers that words give to its arguments.
 
 ghost use Rattle.std.specs.Prelude.{◌≡◌, ◌≤◌, ◌↔◌, ℕ, map, string_bytes, IfOk, IfSome, IfNone, IsTrue};
-ghost use Rattle.bk_top.specs.Arguments.{FitsBits, IsTruth, FitsType, GivesOne, Gives, DoNotFit};
+ghost use Rattle.bk_top.specs.Arguments.{own_stack, FitsBits, IsTruth, FitsType, GivesOne, Gives, DoNotFit};
 
 use crate::command::number::argument_of;
 use bk_num::residue;
 use bk_ops::{Target, Ty, width};
 use std::alloc::{AllocError, Global};
+
+/// The bytes of stack that a call begins with.
+#[tactic(auto, unfolding(crate::specs::Arguments::own_stack))]
+pub fn own_stack() -> u64
+    ensures value { result ≡ own_stack }
+    ensures few { result ≤ 1048576 }
+{
+    65_536
+}
 
 /// Whether w bits spell a number, without a sign or with one.
 fn fits_bits(w: u32, number: i128) -> bool

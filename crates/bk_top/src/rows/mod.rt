@@ -3,6 +3,7 @@
 pub mod call;
 pub mod check;
 pub mod compile;
+pub mod evaluate;
 pub mod generate;
 pub mod input;
 pub mod outcome;

@@ -17,8 +17,10 @@ pub enum Outcome {
     Trapped(u8),
     /// Its bound was spent.
     Going,
-    /// An access or a fetch at this address failed.
+    /// An access or a fetch of a machine at this address failed.
     Fault(u64),
+    /// An access at this address is outside of the data window.
+    Wild(u64),
 }
 
 fn is_signed(ty: Ty) -> bool
@@ -94,6 +96,7 @@ fn write_outcome(
         }
         Outcome::Going => out.push_str("going"),
         Outcome::Fault(address) => write!(out, "fault {address}"),
+        Outcome::Wild(address) => write!(out, "wild {address}"),
     }
 }
 

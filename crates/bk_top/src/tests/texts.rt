@@ -45,3 +45,15 @@ pub const DROPPED: &str =
 /// A loop over a variable, with groups that the reader drops.
 pub const LOOP: &str =
     "var a 24 = 010000000000000002000000000000000300000000000000\nmain.sum func(p *int, n int) int\nb1:\nv1 (?) = InitMem <mem>\nv2 (?) = SP <uintptr>\nv3 (?) = SB <uintptr>\nv4 (?) = Arg <*int> {p} (p[*int])\nv5 (?) = Arg <int> {n} (n[int])\nv6 (?) = Const64 <int> [0] (s[int], i[int])\nv7 (?) = Const64 <int> [1]\nv8 (?) = Const64 <uint64> [3]\nPlain → b2 (+4)\nb2: ← b1 b3\nv9 (4) = Phi <int> v6 v16 (i[int])\nv10 (7) = Phi <int> v6 v15\nv11 (+4) = Less64 <bool> v9 v5\nIf v11 → b3 b4 (likely) (4)\nb3: ← b2\nv12 = Lsh64x64 <int> [true] v9 v8\nv13 = AddPtr <*int> v4 v12\nv14 = Load <int> v13 v1\nv15 = Add64 <int> v10 v14\nv16 = Add64 <int> v9 v7\nPlain → b2\nb4: ← b2\nv17 = MakeResult <int,mem> v10 v1\nRet v17\n";
+
+/// A loop that swaps two numbers.
+pub const SWAP: &str =
+    "swap func(n int, a int, b int) (int, int)\nb1:\nv1 = InitMem <mem>\nv2 = Arg <int> {n}\nv3 = Arg <int> {a}\nv4 = Arg <int> {b}\nv5 = Const64 <int> [0]\nv6 = Const64 <int> [1]\nPlain -> b2\nb2: <- b1 b3\nv7 = Phi <int> v2 v10\nv8 = Phi <int> v3 v9\nv9 = Phi <int> v4 v8\nv11 = Less64 <bool> v5 v7\nIf v11 -> b3 b4\nb3: <- b2\nv10 = Sub64 <int> v7 v6\nPlain -> b2\nb4: <- b2\nv12 = MakeResult <int,int,mem> v8 v9 v1\nRet v12\n";
+
+/// A store behind a nil check.
+pub const STORE: &str =
+    "var g 8 = 0102030405060708\nst func(p ptr, x int32)\nb1:\nv1 = InitMem <mem>\nv2 = Arg <ptr> {p}\nv3 = Arg <int32> {x}\nv4 = NilCheck <void> v2 v1\nv5 = Store <mem> {int32} v2 v3 v1\nv6 = MakeResult <mem> v5\nRet v6\n";
+
+/// A comparison of two numbers of 64 bits.
+pub const LEQ: &str =
+    "leq func(a int64, b int64) bool\nb1:\nv1 = InitMem <mem>\nv2 = Arg <int64> {a}\nv3 = Arg <int64> {b}\nv4 = Leq64 <bool> v2 v3\nv5 = MakeResult <bool,mem> v4 v1\nRet v5\n";

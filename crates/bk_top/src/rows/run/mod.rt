@@ -6,7 +6,8 @@ ghost use Rattle.bk_elf.specs.Object.{IsObject};
 ghost use Rattle.bk_elf.specs.Loading.{loaded};
 ghost use Rattle.bk_elf.specs.Functions.{has_function, function_of};
 ghost use Rattle.bk_top.specs.Commands.{run_row, seen_call};
-ghost use Rattle.bk_top.specs.Running.{own_stack, line_on, Runs};
+ghost use Rattle.bk_top.specs.Arguments.{own_stack};
+ghost use Rattle.bk_top.specs.Running.{line_on, Runs};
 ghost use Rattle.bk_top.specs.Refusals.{refusal_of_load};
 ghost use Rattle.bk_top.specs.Answer.{IsLoading, Spoils};
 
@@ -15,19 +16,10 @@ mod riscv;
 
 use crate::command::call::Call;
 use crate::refusal::Refusal;
-use crate::rows::call::numbers_for;
+use crate::rows::call::{numbers_for, own_stack};
 use bk_elf::{Image, LoadError, Memory, function, load, objects_and_files};
 use bk_ops::Target;
 use std::alloc::Global;
-
-/// The bytes of stack that a call begins with.
-#[tactic(auto, unfolding(crate::specs::Running::own_stack))]
-fn own_stack() -> u64
-    ensures value { result ≡ own_stack }
-    ensures few { result ≤ 1048576 }
-{
-    65_536
-}
 
 /// The refusal of a file that is not loaded.
 fn refusal_of(error: LoadError) -> Refusal
