@@ -1,6 +1,6 @@
 -- The order in which the values of a block are done.
-use Rattle.std.specs.Prelude.{◌≡◌, ℕ, ◌<◌, ◌==◌, if◌then◌else◌, List, [], ◌∷◌, ◌++◌, map, position, Option, Some, None, ◌⊎◌}
-use Rattle.std.specs.List.{Contains}
+use Rattle.std.specs.Prelude.{◌≡◌, ℕ, ◌+◌, ◌<◌, ◌==◌, if◌then◌else◌, List, [], ◌∷◌, ◌++◌, map, position, Option, Some, None, ◌⊎◌}
+use Rattle.std.specs.List.{Contains, slice_get}
 use Rattle.bk_func.specs.Records.{ValueRecord, BlockRecord, FuncRecord}
 use Rattle.bk_func.specs.Numbers.{origin_of, state_of}
 use Rattle.bk_func.specs.Effects.{is_check, is_load, has_effect, chain_from}

@@ -1,0 +1,45 @@
+-- The numbers of values from those at the places of their arguments.
+use Rattle.std.proofs.Common.{◌≡◌, ℕ, ℤ, zero, suc, ◌<◌, refl, ap, sym, ◌∙◌, arith, List, [], ◌∷◌, length, map, Option, Some, None, Bool, true, false}
+use Rattle.std.specs.Prelude.{slice_index, slice_get, unwrap_or, if◌then◌else◌}
+use Rattle.bk_ops.specs.Table.{is_op}
+use Rattle.bk_ops.specs.Values.{op_value, pure_value}
+use Rattle.bk_ops.specs.declared.table.Op.{Op}
+use Rattle.bk_ops.specs.declared.types.Target.{Target}
+use Rattle.bk_ops.specs.declared.types.Ty.{Ty}
+use Rattle.bk_func.specs.Records.{ValueRecord, FuncRecord}
+use Rattle.bk_func.specs.Words.{all_words}
+use Rattle.bk_func.specs.Numbers.{Program, Env, argument, argument_word, address, checked, same, computed, number_by, natural, place_of_arg, address_of}
+use Rattle.bk_mean.specs.Machine.{arg_number}
+use Rattle.bk_mean.specs.Step.{Reads, Stands}
+
+arg_at : (numbers places : List ℕ) (m : ℕ → ℕ) (args : List ℕ) (k : ℕ) → map (slice_index numbers) places ≡ map m args → k < length args → arg_number numbers places k ≡ m (slice_index args k)
+arg_at numbers places m [] k e h = absurd (omega arith)
+arg_at numbers [] m (y ∷ ys) k e h = absurd cc
+arg_at numbers (x ∷ xs) m (y ∷ ys) zero e h = let q : slice_index numbers x ≡ m y = cc in q
+arg_at numbers (x ∷ xs) m (y ∷ ys) (suc k) e h = let q : map (slice_index numbers) xs ≡ map m ys = cc in arg_at numbers xs m ys k q (omega arith)
+
+-- the number at the place of an argument is the argument's
+pub arg_is : (numbers places : List ℕ) (m : ℕ → ℕ) (args : List ℕ) (k : ℕ) → Reads numbers places m args → k < length args → arg_number numbers places k ≡ m (slice_index args k)
+arg_is numbers places m args k r h = arg_at numbers places m args k r.same h
+
+pub by_argument : (p : Program) (f : FuncRecord) (e : Env) (m : ℕ → ℕ) (v : ValueRecord) (t : Target) (tys : List Ty) (args : List ℕ) → Stands p f e t tys args → (n k : ℕ) → k ≡ place_of_arg v.aux → n ≡ slice_index args k →
+    n ≡ number_by argument p f e m v
+by_argument p f e m v t tys args s n k h q = q ∙ ap (slice_index args) h ∙ ap (λ (xs : List ℕ). slice_index xs (place_of_arg v.aux)) (sym s.args)
+
+pub by_argument_word : (p : Program) (f : FuncRecord) (e : Env) (m : ℕ → ℕ) (v : ValueRecord) (t : Target) (tys : List Ty) (args : List ℕ) → Stands p f e t tys args → (n k : ℕ) → k ≡ natural v.int →
+    n ≡ slice_index (all_words t tys args) k → n ≡ number_by argument_word p f e m v
+by_argument_word p f e m v t tys args s n k h q =
+    q ∙ ap (slice_index (all_words t tys args)) h
+    ∙ ap (λ (x : Target). slice_index (all_words x tys args) (natural v.int)) (sym s.target)
+    ∙ ap (λ (xs : List Ty). slice_index (all_words p.target xs args) (natural v.int)) (sym s.types)
+    ∙ ap (λ (xs : List ℕ). slice_index (all_words p.target f.sig.args xs) (natural v.int)) (sym s.args)
+
+pub pure_is : (o : Op) (n : ℤ) (xs : List ℕ) (t : Target) → is_op o.family o.a o.b ≡ true → pure_value o n xs t ≡ op_value o n xs t
+unfolding pure_value
+pure_is o n xs t h = ap (λ (b : Bool). if b then op_value o n xs t else None) h
+
+pub by_computed : (p : Program) (f : FuncRecord) (e : Env) (m : ℕ → ℕ) (v : ValueRecord) (t : Target) (tys : List Ty) (args numbers places : List ℕ) → Stands p f e t tys args → Reads numbers places m v.args →
+    is_op v.op.family v.op.a v.op.b ≡ true → (n : ℕ) (o : Option ℕ) → o ≡ pure_value v.op v.int (map (slice_index numbers) places) t → n ≡ unwrap_or o 0 → n ≡ number_by computed p f e m v
+by_computed p f e m v t tys args numbers places s r i n o h q =
+    q ∙ ap (λ u. unwrap_or u 0) h ∙ ap (λ xs. unwrap_or (pure_value v.op v.int xs t) 0) r.same ∙ ap (λ u. unwrap_or u 0) (pure_is v.op v.int (map m v.args) t i)
+    ∙ ap (λ (x : Target). unwrap_or (op_value v.op v.int (map m v.args) x) 0) (sym s.target)

@@ -1,0 +1,24 @@
+use Rattle.std.proofs.Common.{rules, ◌≡◌, sym, ◌∙◌, subst, ap, map}
+use Rattle.std.specs.Prelude.{slice_index}
+use Rattle.bk_ops.specs.Values.{pure_value}
+use Rattle.bk_func.specs.Numbers.{number_by}
+use Rattle.bk_mean.specs.declared.role.Origin.{Origin}
+use Rattle.bk_mean.specs.Machine.{arg_number}
+use Rattle.bk_mean.specs.Seen.{seen_origin}
+use Rattle.bk_mean.specs.Step.{Follows}
+use Rattle.bk_mean.proofs.Inputs.{arg_is, by_computed}
+use Rattle.bk_mean.proofs.step.number.Goals as goal
+
+pub returns-in-Same : goal.returns-in-Same
+returns-in-Same c = λ p f e m s a r h.
+    let k = subst (λ (x : Origin). Follows (seen_origin x) c.args.value.now) c.in-Same.is h in
+    let g : c.arg.result ≡ arg_number c.args.numbers.now c.args.ready.now.args.items 0 = search rules in
+    subst (λ (x : Origin). c.arg.result ≡ number_by (seen_origin x) p f e m c.args.value.now) (sym c.in-Same.is)
+    (g ∙ arg_is c.args.numbers.now c.args.ready.now.args.items m c.args.value.now.args 0 r k)
+
+pub returns-in-Computed : goal.returns-in-Computed
+returns-in-Computed c = λ p f e m s a r h.
+    let k = subst (λ (x : Origin). Follows (seen_origin x) c.args.value.now) c.in-Computed.is h in
+    let g : c.computed.result ≡ pure_value c.args.value.now.op c.args.value.now.int (map (slice_index c.args.numbers.now) c.args.ready.now.args.items) c.args.given.target = search rules in
+    subst (λ (x : Origin). c.unwrap_or.result ≡ number_by (seen_origin x) p f e m c.args.value.now) (sym c.in-Computed.is)
+    (by_computed p f e m c.args.value.now c.args.given.target c.args.given.types.now c.args.given.args.now c.args.numbers.now c.args.ready.now.args.items s r k c.unwrap_or.result c.computed.result g c.unwrap_or.ensures)

@@ -1,0 +1,11 @@
+use Rattle.std.proofs.Common.{arith}
+use Rattle.std.specs.Prelude.{slice_index}
+use Rattle.std.proofs.lemmas.Bool.Decides.{nat_tests}
+use Rattle.bk_func.specs.Words.{all_words}
+use Rattle.bk_mean.proofs.Spelt.{word_none}
+use Rattle.bk_mean.proofs.words.word_at.Goals as goal
+
+pub returns-in_default : goal.returns-in_default
+returns-in_default c =
+    word_none c.args.target c.args.types.now c.args.numbers.now c.loop-index.index c.loop-index.left (slice_index (all_words c.args.target c.args.types.now c.args.numbers.now) c.args.place)
+    (grind (arith, nat_tests, c.in_default.ensures.lookup)) c.loop-index.invariant

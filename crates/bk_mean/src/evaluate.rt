@@ -1,0 +1,255 @@
+// The evaluation of one function of a package.
+ghost use Rattle.std.specs.Prelude.{◌≡◌, ℕ, ◌<◌, ◌↔◌, nat_lt, if◌then◌else◌, false, [], length, None, Some, IfOk, IsErrOf, slice_get, slice_index};
+ghost use Rattle.bk_func.specs.Meaning.{meaning};
+ghost use Rattle.bk_mean.specs.Eval.{function_named, is_name, fit_at, program, EntersNone, end_of_none};
+ghost use Rattle.bk_mean.specs.Seen.{seen_outcome};
+
+use crate::machine::Machine;
+use crate::prepare::prepare;
+use crate::ready::Ready;
+use crate::symbols::{Callee, Symbols};
+use crate::turn::Next;
+use crate::{EvalError, Outcome};
+use bk_func::{Func, Package, fit};
+use bk_ops::Target;
+use std::alloc::{AllocError, Global};
+
+/// Runs a function of a package on numbers.
+///
+/// `frames` has the bytes of each function's frame, `window` the bytes of the data window, and `stack`
+/// is how many bytes are left to frames. At most `bound` blocks are entered, over all calls. The answer
+/// is how the run ends, and the data window afterwards.
+#[allow(clippy::too_many_arguments)]
+pub fn eval(
+    alloc: Global,
+    pkg: &Package,
+    target: Target,
+    frames: &[u32],
+    name: &str,
+    args: &[u64],
+    window: &[u8],
+    stack: u64,
+    bound: u64,
+) -> Result<(Outcome, Vec<u8>), EvalError>
+    ensures no_function { IsErrOf result EvalError.NoFunction ↔ (function_named pkg.now name.now ≡ None) }
+    ensures bad_args { IsErrOf result EvalError.BadArgs ↔ (fit_at pkg.now target (function_named pkg.now name.now) args.now ≡ false) }
+    ensures none_entered { IfOk result (λ r. (i : ℕ) → function_named pkg.now name.now ≡ Some i → EntersNone bound stack (slice_index frames.now i) → (seen_outcome r.0, r.1.items) ≡ meaning (program pkg.now target frames.now) i args.now window.now stack bound) }
+{
+    let Some(place) = place_of(pkg, name) else {
+        return Err(EvalError::NoFunction);
+    };
+    let func = &pkg.funcs[place];
+    if !fit(target, &func.sig.args, args) {
+        return Err(EvalError::BadArgs);
+    }
+    match run(
+        alloc, pkg, target, frames, place, args, window, stack, bound,
+    ) {
+        Ok(answer) => Ok(answer),
+        Err(_) => Err(EvalError::Memory),
+    }
+}
+
+/// The place of the function with a name.
+fn place_of(pkg: &Package, name: &str) -> Option<usize>
+    ensures { result ≡ function_named pkg.now name.now }
+{
+    pkg.funcs.iter().position(|func| has_name(pkg, func, name))
+}
+
+fn has_name(pkg: &Package, func: &Func, name: &str) -> bool
+    ensures { result ≡ is_name (slice_get pkg.now.names func.now.name) name.now }
+{
+    match pkg.names.get(func.name as usize) {
+        Some(known) => known.as_str() == name,
+        None => false,
+    }
+}
+
+/// Runs the function at a place on numbers that fit its signature.
+#[allow(clippy::too_many_arguments)]
+fn run(
+    alloc: Global,
+    pkg: &Package,
+    target: Target,
+    frames: &[u32],
+    place: usize,
+    args: &[u64],
+    window: &[u8],
+    stack: u64,
+    bound: u64,
+) -> Result<(Outcome, Vec<u8>), AllocError>
+    ensures { IfOk result (λ r. place < length pkg.now.funcs → EntersNone bound stack (slice_index frames.now place) → (seen_outcome r.0 ≡ end_of_none stack (slice_index frames.now place)) × (r.1.items ≡ window.now)) }
+{
+    let symbols = Symbols::new(alloc, pkg)?;
+    let mut readies = none_ready(alloc, pkg.funcs.len())?;
+    let mut machine = Machine {
+        alloc,
+        target,
+        window: window.to_vec(alloc)?,
+        hand: args.to_vec(alloc)?,
+        numbers: Vec::new(alloc),
+        calls: Vec::new(alloc),
+    };
+    let outcome = enter_all(
+        alloc,
+        pkg,
+        frames,
+        place,
+        stack,
+        bound,
+        &symbols,
+        &mut readies,
+        &mut machine,
+    )?;
+    let Machine { window, .. } = machine;
+    Ok((outcome, window))
+}
+
+fn none_ready(alloc: Global, count: usize) -> Result<Vec<Option<Ready>>, AllocError> {
+    let mut readies = Vec::with_capacity(alloc, count)?;
+    for _ in 0..count {
+        readies.push(None)?;
+    }
+    Ok(readies)
+}
+
+/// Begins with a function, and enters one block after the other, as many as the bound allows.
+#[allow(clippy::too_many_arguments)]
+fn enter_all(
+    alloc: Global,
+    pkg: &Package,
+    frames: &[u32],
+    place: usize,
+    stack: u64,
+    bound: u64,
+    symbols: &Symbols,
+    readies: &mut Vec<Option<Ready>>,
+    machine: &mut Machine,
+) -> Result<Outcome, AllocError>
+    ensures { IfOk result (λ o. machine.old.calls.items ≡ [] → place < length pkg.now.funcs → EntersNone bound stack (slice_index frames.now place) → (seen_outcome o ≡ end_of_none stack (slice_index frames.now place)) × (machine.new.window.items ≡ machine.old.window.items)) }
+{
+    if let Some(trap) = begin(
+        alloc, pkg, frames, place, stack, symbols, readies, machine, false,
+    )? {
+        return Ok(Outcome::Trapped(trap));
+    }
+    if bound == 0 {
+        return Ok(Outcome::Going);
+    }
+    enter_blocks(alloc, pkg, frames, stack, bound, symbols, readies, machine)
+}
+
+/// Enters one block after the other.
+#[allow(clippy::too_many_arguments)]
+fn enter_blocks(
+    alloc: Global,
+    pkg: &Package,
+    frames: &[u32],
+    stack: u64,
+    bound: u64,
+    symbols: &Symbols,
+    readies: &mut Vec<Option<Ready>>,
+    machine: &mut Machine,
+) -> Result<Outcome, AllocError> {
+    for _ in 0..bound {
+        match machine.advance(pkg, readies)? {
+            Next::Enter => {}
+            Next::Call { callee, on_words } => {
+                let trap = begin_named(
+                    alloc, pkg, frames, callee, stack, symbols, readies, machine, on_words,
+                )?;
+                if let Some(trap) = trap {
+                    return Ok(Outcome::Trapped(trap));
+                }
+            }
+            Next::Trap(number) => return Ok(Outcome::Trapped(number)),
+            Next::Wild(address) => return Ok(Outcome::Wild(address)),
+            Next::Return => return Ok(Outcome::Returned(machine.hand.to_vec(alloc)?)),
+        }
+    }
+    Ok(Outcome::Going)
+}
+
+/// Begins a call, or gives the number of its trap.
+#[allow(clippy::too_many_arguments)]
+fn begin_named(
+    alloc: Global,
+    pkg: &Package,
+    frames: &[u32],
+    callee: Callee,
+    stack: u64,
+    symbols: &Symbols,
+    readies: &mut Vec<Option<Ready>>,
+    machine: &mut Machine,
+    on_words: bool,
+) -> Result<Option<u8>, AllocError> {
+    match callee {
+        Callee::PanicDivide => Ok(Some(3)),
+        Callee::PanicShift => Ok(Some(4)),
+        Callee::Missing => Ok(Some(6)),
+        Callee::Func(place) => begin(
+            alloc, pkg, frames, place, stack, symbols, readies, machine, on_words,
+        ),
+    }
+}
+
+/// Begins a call of the function at a place, or gives the number of its trap.
+#[allow(clippy::too_many_arguments)]
+fn begin(
+    alloc: Global,
+    pkg: &Package,
+    frames: &[u32],
+    place: usize,
+    stack: u64,
+    symbols: &Symbols,
+    readies: &mut Vec<Option<Ready>>,
+    machine: &mut Machine,
+    on_words: bool,
+) -> Result<Option<u8>, AllocError>
+    ensures window { machine.new.window.items ≡ machine.old.window.items }
+    ensures first { IfOk result (λ trap. machine.old.calls.items ≡ [] → place < length pkg.now.funcs → trap ≡ (if nat_lt stack (slice_index frames.now place) then Some 5 else None)) }
+{
+    let Some(func) = pkg.funcs.get(place) else {
+        return Ok(Some(6));
+    };
+    let have = machine.stack(stack);
+    let frame = frame_of(frames, place);
+    if have < frame {
+        return Ok(Some(5));
+    }
+    let left = have - frame;
+    make_ready(alloc, symbols, func, readies, place)?;
+    if on_words {
+        machine.take_words(&func.sig)?;
+    }
+    if let Some(Some(ready)) = readies.get(place) {
+        machine.begin(place, &func.sig, ready, left)?;
+    }
+    Ok(None)
+}
+
+/// The bytes of the frame of the function at a place.
+fn frame_of(frames: &[u32], place: usize) -> u64
+    ensures { result ≡ slice_index frames.now place }
+{
+    match frames.get(place) {
+        Some(frame) => u64::from(*frame),
+        None => 0,
+    }
+}
+
+/// Makes the function at a place ready, once.
+fn make_ready(
+    alloc: Global,
+    symbols: &Symbols,
+    func: &Func,
+    readies: &mut Vec<Option<Ready>>,
+    place: usize,
+) -> Result<(), AllocError> {
+    if place < readies.len() && readies[place].is_none() {
+        let ready = prepare(alloc, symbols, func)?;
+        readies[place] = Some(ready);
+    }
+    Ok(())
+}
