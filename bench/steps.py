@@ -1,5 +1,5 @@
 #!/usr/bin/env python3
-"""Measures how many steps a second `backend run` makes on each machine.
+"""Measures how many steps `backend run` makes on each machine in a second of processor time.
 
     bench/steps.py [PROGRAM]
 
@@ -8,11 +8,11 @@ that loads, stores, multiplies, shifts, adds, compares and branches, is made for
 short run shows that the result is right, and a long one of 100 million steps is timed.
 """
 import os
+import resource
 import struct
 import subprocess
 import sys
 import tempfile
-import time
 
 TOP = os.path.join(os.path.dirname(os.path.abspath(__file__)), "..")
 SHORT, LONG = 1_000, 10_000_000
@@ -141,9 +141,14 @@ class Machine:
 def run(program, file, rounds):
     words = [program, "run", "loop", str(10 * rounds + 100), str(rounds)]
     with open(file, "rb") as source:
-        start = time.monotonic()
+        start = processor_time()
         ran = subprocess.run(words, stdin=source, capture_output=True, text=True)
-    return ran, time.monotonic() - start
+    return ran, processor_time() - start
+
+
+def processor_time():
+    used = resource.getrusage(resource.RUSAGE_CHILDREN)
+    return used.ru_utime + used.ru_stime
 
 
 def main():
