@@ -18,7 +18,7 @@ use Rattle.bk_mean.proofs.Roles.{only_mem, init_args, phi_no_memory}
 use Rattle.bk_mean.proofs.Typed.{no_effect, init_memory}
 use Rattle.bk_mean.proofs.Formed.{Sound}
 use Rattle.bk_mean.proofs.Ranks.{needs_precede, needs_onward}
-use Rattle.bk_mean.proofs.States.{needs_named}
+use Rattle.bk_mean.proofs.Stands.{needs_named}
 
 -- no value needs itself, nor what needs it
 pub needs_apart : (s : Setting) (f : FuncRecord) → Sound s f → (b : BlockRecord) (v : ValueRecord) → HasValue f b v → ¬ Needs b v v

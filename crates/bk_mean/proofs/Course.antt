@@ -15,7 +15,7 @@ use Rattle.bk_mean.proofs.Named.{to_in, to_contains, id_in}
 use Rattle.bk_mean.proofs.Dominance.{reached_block}
 use Rattle.bk_mean.proofs.Typed.{effect_is_state, named_effect, no_effect}
 use Rattle.bk_mean.proofs.Formed.{Sound}
-use Rattle.bk_mean.proofs.States.{state_named}
+use Rattle.bk_mean.proofs.Stands.{state_named}
 use Rattle.bk_mean.proofs.Along.{find_in}
 use Rattle.bk_mean.proofs.Chains.{names_no_phi, IsFirst, first_unnamed, first_found, found_first, first_is_state, linked_order, Chain, its_chain}
 use Rattle.bk_mean.proofs.Follows.{Follows, find_true, find_none, chain_complete, IsMet, chained_next}

@@ -19,7 +19,7 @@ use Rattle.bk_mean.proofs.Longest.{Way, way_short}
 use Rattle.bk_mean.proofs.Typed.{effect_is_state}
 use Rattle.bk_mean.proofs.Formed.{Sound}
 use Rattle.bk_mean.proofs.Ranks.{needs_onward}
-use Rattle.bk_mean.proofs.States.{state_named, named_state, needs_named}
+use Rattle.bk_mean.proofs.Stands.{state_named, named_state, needs_named}
 use Rattle.bk_mean.proofs.Along.{find_in}
 use Rattle.bk_mean.proofs.Chains.{needs_apart, effect_no_phi, effect_no_copy, linked_order, After, its_chain}
 

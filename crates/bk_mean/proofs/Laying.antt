@@ -23,7 +23,7 @@ use Rattle.bk_mean.proofs.Roles.{checks, loads}
 use Rattle.bk_mean.proofs.Typed.{no_effect}
 use Rattle.bk_mean.proofs.Ranks.{rank, rank_below_room, needs_onward}
 use Rattle.bk_mean.proofs.Needed.{need, needs_true, true_needs}
-use Rattle.bk_mean.proofs.States.{named_state, needs_named}
+use Rattle.bk_mean.proofs.Stands.{named_state, needs_named}
 use Rattle.bk_mean.proofs.Chains.{needs_apart}
 use Rattle.bk_mean.proofs.Follows.{Follows, numbers_of, at_some, some_at}
 use Rattle.bk_mean.proofs.Turns.{filter-append, order_greedy}

@@ -19,7 +19,7 @@ use Rattle.bk_mean.proofs.Roles.{loads, checks, no_phi, not_phi, check_args}
 use Rattle.bk_mean.proofs.Typed.{effect_is_state}
 use Rattle.bk_mean.proofs.Formed.{Sound}
 use Rattle.bk_mean.proofs.Ranks.{rank, rank_below_room, argument_falls, needs_precede, needs_onward, behind}
-use Rattle.bk_mean.proofs.States.{state_named, named_state}
+use Rattle.bk_mean.proofs.Stands.{state_named, named_state}
 use Rattle.bk_mean.proofs.Steady.{load_state}
 use Rattle.bk_mean.proofs.Chains.{needs_apart}
 use Rattle.bk_mean.proofs.Follows.{Follows, follows_names, follows_needs, follows_one, Chained, done, next, numbers_of}

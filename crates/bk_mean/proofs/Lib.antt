@@ -1,3 +1,4 @@
+pub mod Acting
 pub mod Acts
 pub mod Along
 pub mod Arranged
@@ -25,7 +26,7 @@ pub mod Roles
 pub mod Settled
 pub mod Sizes
 pub mod Spelt
-pub mod States
+pub mod Stands
 pub mod Steady
 pub mod Tables
 pub mod Turns

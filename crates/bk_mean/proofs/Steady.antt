@@ -18,7 +18,7 @@ use Rattle.bk_mean.proofs.Dominance.{Dominates, one_dominates, defined_from, def
 use Rattle.bk_mean.proofs.Roles.{no_phi, load_args, result_args, result_families, first_argument}
 use Rattle.bk_mean.proofs.Formed.{Sound}
 use Rattle.bk_mean.proofs.Ranks.{rank, rank_below_room, argument_falls, input_taken, live_there, needs_onward}
-use Rattle.bk_mean.proofs.States.{state_named, state_defined, needs_named}
+use Rattle.bk_mean.proofs.Stands.{state_named, state_defined, needs_named}
 
 -- environments that differ at most in the numbers of some phis, and in what calls gave and in windows at other numbers
 pub record Agree (e d : Env) (P Q : ℕ → Type 0) : Type 0 where

@@ -18,7 +18,7 @@ use Rattle.bk_mean.proofs.Roles.{checks}
 use Rattle.bk_mean.proofs.Formed.{Sound}
 use Rattle.bk_mean.proofs.Ranks.{rank, rank_below_room, needs_precede, needs_onward, behind}
 use Rattle.bk_mean.proofs.Needed.{need, needs_true, true_needs, needs_rank}
-use Rattle.bk_mean.proofs.States.{named_state}
+use Rattle.bk_mean.proofs.Stands.{named_state}
 use Rattle.bk_mean.proofs.Chains.{needs_apart}
 use Rattle.bk_mean.proofs.Follows.{at_some}
 

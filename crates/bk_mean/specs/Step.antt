@@ -105,3 +105,9 @@ is_byte_store _ = false
 abbrev pub size_beside : Target → Aux → ℕ
 size_beside t (beside.Ty ty) = size_of_ty ty t
 size_beside t _ = 0
+
+-- a call of a function
+abbrev pub IsCalling : fx.Effect → Type 0
+IsCalling fx.call = Unit {0}
+IsCalling fx.call_words = Unit {0}
+IsCalling _ = ⊥

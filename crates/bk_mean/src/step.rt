@@ -4,11 +4,12 @@ ghost use Rattle.bk_num.specs.Word.{residue};
 ghost use Rattle.bk_ops.specs.Types.{word_width};
 ghost use Rattle.bk_ops.specs.Memory.{number_at, with_number, with_zeros};
 ghost use Rattle.bk_func.specs.Records.{FuncRecord};
-ghost use Rattle.bk_func.specs.Numbers.{Program, Env, loaded, number_by, address_of, address_by, read_at, place_of_arg as meant_place, natural as meant_natural, made_of as meant_number};
+ghost use Rattle.bk_func.specs.Effects.{Effect as Effects, effect_of as meant_effect};
+ghost use Rattle.bk_func.specs.Numbers.{Program, Env, loaded, origin_of as meant_origin, number_by, address_of, address_by, read_at, place_of_arg as meant_place, natural as meant_natural, made_of as meant_number};
 ghost use Rattle.bk_func.specs.Meaning.{World, Activation, Calls, trapped, fault_by, gives, with_window, moved, done_by, store_size as meant_size, stored_of as meant_stored};
 ghost use Rattle.bk_mean.specs.Machine.{arg_number};
 ghost use Rattle.bk_mean.specs.Seen.{seen_origin, seen_effect};
-ghost use Rattle.bk_mean.specs.Step.{Reads, Stands, Follows, IsSettled, IsActed, Sees, settled, fault_of, with_words, seeing, after_run, is_store as is_store_op, is_byte_store as is_byte_store_op, size_beside as meant_beside};
+ghost use Rattle.bk_mean.specs.Step.{Reads, Stands, Follows, IsSettled, IsActed, IsCalling, Sees, settled, fault_of, with_words, seeing, after_run, is_store as is_store_op, is_byte_store as is_byte_store_op, size_beside as meant_beside};
 
 use crate::fit::word_bits;
 use crate::memory::{DATA_BASE, copy_bytes, write_zeros};
@@ -56,14 +57,39 @@ pub(crate) fn step(
     numbers: &mut [u64],
     window: &mut Vec<u8>,
     words: &mut CallWords,
-) -> Result<After, AllocError> {
+) -> Result<After, AllocError>
+    ensures quiet { IfOk result (λ after. meant_effect value.now.op.family value.now.ty ≡ None → (window.new.items ≡ window.old.items) × (words.new ≡ words.old)) }
+    ensures fault { IfOk result (λ after. meant_effect value.now.op.family value.now.ty ≡ None → (p : Program) (f : FuncRecord) (e : Env) (m : ℕ → ℕ) → Stands p f e given.entry.target given.entry.types.now given.entry.args.now → Reads numbers.old ready.now.args.items m value.now.args → IsSettled (meant_origin value.now.op.family) given.entry.target value.now → fault_of after ≡ fault_by (meant_origin value.now.op.family) given.entry.target m window.old.items value.now) }
+    ensures number { IfOk result (λ after. meant_effect value.now.op.family value.now.ty ≡ None → (p : Program) (f : FuncRecord) (e : Env) (m : ℕ → ℕ) → Stands p f e given.entry.target given.entry.types.now given.entry.args.now → ready.now.address ≡ address_of p.pkg value.now.aux → Reads numbers.old ready.now.args.items m value.now.args → IsSettled (meant_origin value.now.op.family) given.entry.target value.now → Sees f e window.old.items (meant_origin value.now.op.family) value.now → fault_of after ≡ None → numbers.new ≡ settled (meant_origin value.now.op.family) numbers.old place (number_by (meant_origin value.now.op.family) p f e m value.now)) }
+    ensures acted { IfOk result (λ after. (x : Effects) → meant_effect value.now.op.family value.now.ty ≡ Some x → numbers.new ≡ numbers.old) }
+    ensures effect { IfOk result (λ after. (x : Effects) → meant_effect value.now.op.family value.now.ty ≡ Some x → (p : Program) (m : ℕ → ℕ) (calls : Calls) (a : Activation) (w : World) → p.target ≡ given.entry.target → Reads numbers.old ready.now.args.items m value.now.args → IsActed x given.entry.target value.now → done_by (Some x) calls p m value.now (with_words a words.old) (seeing w window.old.items) ≡ after_run after (with_words a words.new) (seeing w window.new.items)) }
+    ensures call { IfOk result (λ after. (x : Effects) → meant_effect value.now.op.family value.now.ty ≡ Some x → IsCalling x → (after ≡ After.Call) × (window.new.items ≡ window.old.items) × (words.new ≡ words.old)) }
+{
     match effect_of(value.op.family, value.ty) {
-        Some(Effect::Call | Effect::CallWords) => Ok(After::Call),
-        Some(effect) => act(effect, value, ready, given.target, numbers, window, words),
+        Some(effect) => step_memory(effect, value, ready, given.target, numbers, window, words),
         None => {
             let origin = origin_of(value.op.family);
             Ok(settle(origin, value, ready, place, given, numbers, window))
         }
+    }
+}
+
+/// Does what a memory value does.
+fn step_memory(
+    effect: Effect,
+    value: &Value,
+    ready: &ReadyValue,
+    target: Target,
+    numbers: &[u64],
+    window: &mut Vec<u8>,
+    words: &mut CallWords,
+) -> Result<After, AllocError>
+    ensures effect { IfOk result (λ after. (p : Program) (m : ℕ → ℕ) (calls : Calls) (a : Activation) (w : World) → p.target ≡ target → Reads numbers.now ready.now.args.items m value.now.args → IsActed (seen_effect effect) target value.now → done_by (Some (seen_effect effect)) calls p m value.now (with_words a words.old) (seeing w window.old.items) ≡ after_run after (with_words a words.new) (seeing w window.new.items)) }
+    ensures call { IfOk result (λ after. IsCalling (seen_effect effect) → (after ≡ After.Call) × (window.new.items ≡ window.old.items) × (words.new ≡ words.old)) }
+{
+    match effect {
+        Effect::Call | Effect::CallWords => Ok(After::Call),
+        effect => act(effect, value, ready, target, numbers, window, words),
     }
 }
 
