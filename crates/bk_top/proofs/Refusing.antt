@@ -3,7 +3,7 @@ use Rattle.std.proofs.Common.{◌≡◌, ℕ, ◌<◌, ◌≤◌, List, [], get_
 use Rattle.bk_io.specs.Faults.{Rose}
 use Rattle.bk_top.specs.declared.refusal.Refusal.{Refusal}
 use Rattle.bk_top.specs.declared.refusal.Refusal.TheVariants.{Words, ReadFault, TooLong, Syntax, Limit, Duplicate, Undefined, FormFault, NotYet, Object, Function, Arguments, WriteFault, Memory}
-use Rattle.bk_top.specs.Commands.{CommandRecord, compile_row, check_row, generate_row, run_row, evaluate_row, words_of, Asks}
+use Rattle.bk_top.specs.Commands.{CommandRecord, compile_row, check_row, generate_row, run_row, evaluate_row, rules_row, words_of, Asks}
 use Rattle.bk_top.specs.Refusals.{status}
 use Rattle.bk_top.specs.Answer.{IsNarrowText, NoFault, Stems, Cause, Tells, Refused}
 
@@ -14,6 +14,7 @@ asks_compile words (check_row target) h a = absurd (let l : 3 ≡ 2 = ap length 
 asks_compile words (generate_row n) h a = absurd (let l : 3 ≡ 2 = ap length (sym h ∙ a.0) in omega arith)
 asks_compile words (run_row call) h a = absurd (let l : 7 ≡ 3 = ap (λ ws. length (get_or ws 0 [])) (sym h ∙ a.0) in omega arith)
 asks_compile words (evaluate_row target call) h a = absurd (let l : 7 ≡ 4 = ap (λ ws. length (get_or ws 0 [])) (sym h ∙ a.0) in omega arith)
+asks_compile words rules_row h a = absurd (let l : 3 ≡ 1 = ap length (sym h ∙ a.0) in omega arith)
 
 -- a refusal of a command has its cause
 caused : (words : List (List ℕ)) (input : Option (List ℕ)) (before now : ℕ) (c : CommandRecord) (r : Refusal) → Asks words c → Stems c input before now r → Cause words input before now r

@@ -12,7 +12,7 @@ use Rattle.bk_dump.specs.Generate.{generated}
 use Rattle.bk_top.specs.declared.refusal.Refusal.{Refusal}
 use Rattle.bk_top.specs.declared.refusal.Refusal.TheVariants.{Words, ReadFault, TooLong, Syntax, Limit, Duplicate, Undefined, FormFault, NotYet, Object, Function, Arguments, WriteFault, Memory}
 use Rattle.bk_top.specs.Narrow.{Narrow, IsNarrow}
-use Rattle.bk_top.specs.Commands.{CommandRecord, compile_row, check_row, generate_row, run_row, evaluate_row, Asks}
+use Rattle.bk_top.specs.Commands.{CommandRecord, compile_row, check_row, generate_row, run_row, evaluate_row, rules_row, Asks}
 use Rattle.bk_top.specs.Refusals.{status, line}
 use Rattle.bk_top.specs.Sums.{is_sums}
 use Rattle.bk_top.specs.Routine.{routine_of_narrow, routine_of}
@@ -21,6 +21,7 @@ use Rattle.bk_top.specs.Pieces.{narrow_piece, func_piece, name_in, object_of, Ar
 use Rattle.bk_top.specs.Runs.{Serves}
 use Rattle.bk_top.specs.Running.{Runs, LacksFunction, Misfits}
 use Rattle.bk_top.specs.Evaluating.{Evaluates, LacksNamed, MisfitsNamed}
+use Rattle.bk_top.specs.Listing.{listing}
 
 -- the text is within the limit of narrow texts and spells a list of narrow functions
 abbrev pub IsNarrowText : List ℕ → Type 0
@@ -63,6 +64,7 @@ Makes (check_row target) input bytes = Checks bytes
 Makes (generate_row n) input bytes = bytes ≡ text_of (generated n)
 Makes (run_row call) input bytes = IfSome input (λ object. Runs call object bytes)
 Makes (evaluate_row target call) input bytes = Evaluates target call bytes
+Makes rules_row input bytes = bytes ≡ listing
 
 -- a command that reads its input
 abbrev pub ReadsInput : CommandRecord → Type 0
@@ -71,6 +73,7 @@ ReadsInput (check_row target) = Unit {0}
 ReadsInput (generate_row n) = ⊥
 ReadsInput (run_row call) = Unit {0}
 ReadsInput (evaluate_row target call) = Unit {0}
+ReadsInput rules_row = ⊥
 
 -- the most bytes of a package text and of an object
 abbrev pub text_limit : ℕ
@@ -86,6 +89,7 @@ input_limit (check_row target) = text_limit
 input_limit (generate_row n) = text_limit
 input_limit (run_row call) = object_limit
 input_limit (evaluate_row target call) = text_limit
+input_limit rules_row = text_limit
 
 -- a text that a command leaves to the reader of packages
 abbrev pub IsLeft : CommandRecord → List ℕ → Type 0
@@ -94,6 +98,7 @@ IsLeft (check_row target) text = Unit {0}
 IsLeft (generate_row n) text = ⊥
 IsLeft (run_row call) text = ⊥
 IsLeft (evaluate_row target call) text = Unit {0}
+IsLeft rules_row text = ⊥
 
 -- the command makes code, and the package that was read is none of sums, or has names that no object holds
 abbrev pub IsNotYet : CommandRecord → Type 0
@@ -102,6 +107,7 @@ IsNotYet (check_row target) = ⊥
 IsNotYet (generate_row n) = ⊥
 IsNotYet (run_row call) = ⊥
 IsNotYet (evaluate_row target call) = ⊥
+IsNotYet rules_row = ⊥
 
 -- the command runs a function of an object, and its input is none
 abbrev pub IsNoObject : CommandRecord → List ℕ → LoadError → Type 0
@@ -110,6 +116,7 @@ IsNoObject (check_row target) text e = ⊥
 IsNoObject (generate_row n) text e = ⊥
 IsNoObject (run_row call) text e = loaded text ≡ Err e
 IsNoObject (evaluate_row target call) text e = ⊥
+IsNoObject rules_row text e = ⊥
 
 -- the command calls a function that is not there
 abbrev pub HasNone : CommandRecord → List ℕ → Type 0
@@ -118,6 +125,7 @@ HasNone (check_row target) text = ⊥
 HasNone (generate_row n) text = ⊥
 HasNone (run_row call) text = LacksFunction call text
 HasNone (evaluate_row target call) text = LacksNamed call
+HasNone rules_row text = ⊥
 
 -- the command calls a function by words that do not fit it
 abbrev pub HasOthers : CommandRecord → List ℕ → Type 0
@@ -126,6 +134,7 @@ HasOthers (check_row target) text = ⊥
 HasOthers (generate_row n) text = ⊥
 HasOthers (run_row call) text = Misfits call text
 HasOthers (evaluate_row target call) text = MisfitsNamed target call
+HasOthers rules_row text = ⊥
 
 -- a refusal of a command's text
 abbrev pub Spoils : CommandRecord → List ℕ → Refusal → Type 0

@@ -5,7 +5,7 @@ use Rattle.bk_ops.specs.declared.types.Target.{Target}
 use Rattle.bk_ops.specs.declared.types.Target.TheVariants.{Arm, Riscv64}
 use Rattle.bk_top.specs.declared.command.call.Call.{Call}
 use Rattle.bk_top.specs.declared.command.Command.{Command}
-use Rattle.bk_top.specs.declared.command.Command.TheVariants.{Compile, Check, Generate, Run, Evaluate}
+use Rattle.bk_top.specs.declared.command.Command.TheVariants.{Compile, Check, Generate, Run, Evaluate, Rules}
 
 -- a function by its name, a bound on its run, and the words of its arguments
 pub record CallRecord : Type 0 where
@@ -20,6 +20,7 @@ pub data CommandRecord : Type 0 where
   generate_row : ℕ → CommandRecord
   run_row : CallRecord → CommandRecord
   evaluate_row : Target → CallRecord → CommandRecord
+  rules_row : CommandRecord
 
 abbrev pub seen_call : Call → CallRecord
 seen_call c = record { name = string_bytes c.name.now; bound = c.bound; args = map string_bytes c.args.now }
@@ -30,6 +31,7 @@ seen (Check target) = check_row target
 seen (Generate n) = generate_row n
 seen (Run call) = run_row (seen_call call)
 seen (Evaluate target call) = evaluate_row target (seen_call call)
+seen Rules = rules_row
 
 abbrev pub target_word : Target → List ℕ
 target_word Arm = codes "arm"
@@ -45,6 +47,7 @@ words_of (check_row target) = codes "check" ∷ target_word target ∷ []
 words_of (generate_row n) = codes "gen" ∷ decimal n ∷ []
 words_of (run_row call) = codes "run" ∷ call_words call
 words_of (evaluate_row target call) = codes "eval" ∷ target_word target ∷ call_words call
+words_of rules_row = codes "rules" ∷ []
 
 -- digits that have no sign and no leading zero
 abbrev pub IsCanonical : List ℕ → Type 0
@@ -70,6 +73,7 @@ IsInRange (check_row target) = Unit {0}
 IsInRange (generate_row n) = (1 ≤ n) × (n ≤ 4096)
 IsInRange (run_row call) = IsCall call
 IsInRange (evaluate_row target call) = IsCall call
+IsInRange rules_row = Unit {0}
 
 -- the words ask for the command
 abbrev pub Asks : List (List ℕ) → CommandRecord → Type 0

@@ -8,6 +8,7 @@ pub mod Arguments
 pub mod Outcomes
 pub mod Running
 pub mod Evaluating
+pub mod Listing
 pub mod Refusals
 pub mod Sums
 pub mod Routine

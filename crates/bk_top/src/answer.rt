@@ -12,6 +12,7 @@ use crate::rows::compile::compile;
 use crate::rows::evaluate::evaluate;
 use crate::rows::generate::generated_text;
 use crate::rows::input::{OBJECT_LIMIT, TEXT_LIMIT, bytes_of};
+use crate::rows::rules::rules_listing;
 use crate::rows::run::run;
 use bk_io::Source;
 use bk_ops::Target;
@@ -75,6 +76,10 @@ pub fn answer<S: Source>(
         Command::Run(call) => answer_run(alloc, input, call),
         Command::Evaluate(target, call) => answer_evaluate(alloc, input, target, call),
         Command::Generate(count) => match generated_text(alloc, count) {
+            Ok(text) => Ok(text),
+            Err(_) => Err(Refusal::Memory),
+        },
+        Command::Rules => match rules_listing(alloc) {
             Ok(text) => Ok(text),
             Err(_) => Err(Refusal::Memory),
         },

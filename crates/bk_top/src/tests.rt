@@ -18,7 +18,7 @@ use texts::{
 /// The words, the input, and what they leave: the status and the texts on the output and on the error stream.
 struct Row(&'static str, &'static str, u8, &'static str, &'static str);
 
-const TEXTS: [Row; 49] = [
+const TEXTS: [Row; 50] = [
     Row("check arm", "", 0, "ok 0 functions 0 values\n", ""),
     Row("check riscv64", ADD, 0, "ok 1 functions 5 values\n", ""),
     Row(
@@ -152,6 +152,7 @@ const TEXTS: [Row; 49] = [
     Row("eval arm q 1", NO_SUCH, 3, "", "undefined nosuch\n"),
     Row("eval mips st 10 0 9", STORE, 2, "", "words\n"),
     Row("eval arm st", STORE, 2, "", "words\n"),
+    Row("rules generic", "", 2, "", "words\n"),
 ];
 
 /// Where reads and writes fail: the number of a read, and the room of the sinks.
@@ -367,6 +368,20 @@ fn generated(rt: HostRuntime) -> Result<(), Memory> {
             .bytes()
             .ends_with(b"  v35 = MakeResult <int64,mem> v34 v1\n  Ret v35\n")
     );
+    Ok(())
+}
+
+#[test]
+fn rules(rt: HostRuntime) -> Result<(), Memory> {
+    let faults = Failing {
+        read: 0,
+        room: 20_000,
+        error_room: 100,
+    };
+    let left = answered(rt.alloc(), "rules", b"", faults)?;
+    assert_eq!(rt; left.status, 0);
+    assert_eq!(rt; left.out.bytes().len(), 12_243);
+    assert!(rt; left.out.bytes().starts_with(b"# generic\n("));
     Ok(())
 }
 

@@ -24,6 +24,8 @@ pub enum Command<'a> {
     Run(Call<'a>),
     /// `eval TARGET NAME BOUND ARG..`: how a call of a function of the package that is read ends.
     Evaluate(Target, Call<'a>),
+    /// `rules`: the lists of rewrite rules.
+    Rules,
 }
 
 /// The most functions of a generated package.
@@ -109,6 +111,16 @@ fn evaluate(others: &[String]) -> Option<Command<'_>>
     Some(Command::Evaluate(target, call_of(words)?))
 }
 
+fn rules(others: &[String]) -> Option<Command<'_>>
+    ensures found { IfSome result (λ c. Asks (codes "rules" ∷ map string_bytes others.now) (seen c)) }
+    ensures none { IfNone result ((c : CommandRecord) → Asks (codes "rules" ∷ map string_bytes others.now) c → ⊥) }
+{
+    match others {
+        [] => Some(Command::Rules),
+        _ => None,
+    }
+}
+
 /// The command of the words; None where they are in no row.
 pub fn command_of(words: &[String]) -> Option<Command<'_>>
     ensures found { IfSome result (λ c. Asks (map string_bytes words.now) (seen c)) }
@@ -125,6 +137,8 @@ pub fn command_of(words: &[String]) -> Option<Command<'_>>
         run(others)
     } else if is_text(name, "eval") {
         evaluate(others)
+    } else if is_text(name, "rules") {
+        rules(others)
     } else {
         None
     }

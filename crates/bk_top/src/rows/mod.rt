@@ -7,4 +7,5 @@ pub mod evaluate;
 pub mod generate;
 pub mod input;
 pub mod outcome;
+pub mod rules;
 pub mod run;
