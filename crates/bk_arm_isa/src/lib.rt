@@ -14,8 +14,6 @@ mod flags;
 mod laws;
 mod read;
 mod stop;
-#[cfg(test)]
-mod tests;
 mod words;
 mod write;
 

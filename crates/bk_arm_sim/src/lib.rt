@@ -19,6 +19,3 @@ pub use machine::Machine;
 pub use returned::results;
 pub use starting::start;
 pub use steps::{run, step};
-
-#[cfg(test)]
-mod tests;

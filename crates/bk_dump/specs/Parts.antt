@@ -1,7 +1,10 @@
 -- The parts of a line, and how a line lays them out.
-use Rattle.std.specs.Prelude.{◌≡◌, ◌≢◌, ◌<◌, ◌==◌, ◌&&◌, ◌||◌, ℕ, Bool, true, not, nat_lt, List, [], ◌∷◌, ◌++◌, ◌⊎◌, All, length, codes}
-use Rattle.std.specs.Fmt.{decimal}
-use Rattle.std.specs.Str.{IsUtf8}
+use Rattle.std.specs.Prelude.{◌≡◌, ◌≢◌, ◌<◌, ◌==◌, ℕ, Bool, true, min, List, [], ◌∷◌, ◌++◌, ◌⊎◌, length, slice_index, codes}
+use Rattle.std.specs.List.{AllByRecursion}
+use Rattle.std.specs.Str.{is_utf8}
+use Rattle.std.specs.Str.Parse.{AllDigits, digits_value}
+use Rattle.bk_text.specs.Tokens.{is_blank}
+use Rattle.bk_dump.specs.Words.{is_name_byte, is_plain_byte}
 
 -- a part: a word, which stands for names and numbers too, or a mark
 pub data Part : Type 0 where
@@ -12,58 +15,66 @@ abbrev pub bytes_of : Part → List ℕ
 bytes_of (word bytes) = bytes
 bytes_of (mark bytes) = bytes
 
--- a space or a tab
-abbrev pub IsBlank : ℕ → Type 0
-IsBlank byte = (byte ≡ 32) ⊎ (byte ≡ 9)
+-- spaces and tabs
+abbrev pub AreBlanks : List ℕ → Type 0
+AreBlanks gap = AllByRecursion (λ c. is_blank c ≡ true) gap
 
 -- the text begins with a blank
 abbrev pub BeginsBlank : List ℕ → Type 0
 BeginsBlank [] = ⊥
-BeginsBlank (byte ∷ text) = IsBlank byte
+BeginsBlank (c ∷ text) = is_blank c ≡ true
 
 -- where this part is a word, and so is the first of those behind it, a blank stands at the front of the text
 abbrev pub Apart : Part → List Part → List ℕ → Type 0
 Apart (mark bytes) more text = Unit {0}
 Apart (word bytes) [] text = Unit {0}
-Apart (word bytes) (mark other ∷ more) text = Unit {0}
-Apart (word bytes) (word other ∷ more) text = BeginsBlank text
+Apart (word bytes) ((mark other) ∷ more) text = Unit {0}
+Apart (word bytes) ((word other) ∷ more) text = BeginsBlank text
 
 -- the line is these parts in order, with any blanks before, between and behind them, and some between two words
 abbrev pub Lays : List Part → List ℕ → Type 0
-Lays [] line = All IsBlank line
+Lays [] line = AreBlanks line
 Lays (part ∷ more) line =
-    (gap : List ℕ) × (rest : List ℕ) × (line ≡ gap ++ (bytes_of part ++ rest)) × All IsBlank gap × Apart part more rest × Lays more rest
+    (gap : List ℕ) × (rest : List ℕ) × (line ≡ gap ++ (bytes_of part ++ rest)) × AreBlanks gap × Apart part more rest × Lays more rest
+
+-- the line is laid out by parts that spell this
+abbrev pub Spells : {A : Type 0} → (List Part → A → Type 0) → List ℕ → A → Type 0
+Spells spell line x = (parts : List Part) × Lays parts line × spell parts x
+
+-- each of these lists of parts behind a comma
+abbrev pub behind_commas : List (List Part) → List Part
+behind_commas [] = []
+behind_commas (parts ∷ more) = mark (codes ",") ∷ (parts ++ behind_commas more)
 
 -- these lists of parts with commas between them
 abbrev pub listed : List (List Part) → List Part
 listed [] = []
-listed (first ∷ []) = first
-listed (first ∷ (next ∷ more)) = first ++ (mark (codes ",") ∷ listed (next ∷ more))
+listed (first ∷ more) = first ++ behind_commas more
 
--- a byte of names: one above 32 but DEL and { } < > , = "
-unfoldable pub is_name_byte : ℕ → Bool
-is_name_byte c = nat_lt 32 c && not (c == 127 || c == 123 || c == 125 || c == 60 || c == 62 || c == 44 || c == 61 || c == 34)
-
--- a byte of names in types and lists of parameters: no round bracket
-unfoldable pub is_plain_byte : ℕ → Bool
-is_plain_byte c = is_name_byte c && not (c == 40 || c == 41)
-
--- a name
-pub record IsName (name : List ℕ) : Type 0 where
+-- some bytes that pass a test, in UTF-8
+pub record IsNameOf (p : ℕ → Bool) (name : List ℕ) : Type 0 where
   pub some : 0 < length name
-  pub bytes : All (λ c. is_name_byte c ≡ true) name
-  pub utf8 : IsUtf8 name
+  pub bytes : AllByRecursion (λ c. p c ≡ true) name
+  pub utf8 : is_utf8 name ≡ true
 
--- a name in a type or a list of parameters
-pub record IsPlainName (name : List ℕ) : Type 0 where
-  pub some : 0 < length name
-  pub bytes : All (λ c. is_plain_byte c ≡ true) name
-  pub utf8 : IsUtf8 name
+-- a name, and a name in a type or a list of parameters
+abbrev pub IsName : List ℕ → Type 0
+IsName name = IsNameOf is_name_byte name
+
+abbrev pub IsPlainName : List ℕ → Type 0
+IsPlainName name = IsNameOf is_plain_byte name
+
+-- decimal digits, with no leading zero unless they are `0`, and their number
+pub record IsDecimal (text : List ℕ) (n : ℕ) : Type 0 where
+  pub some : 0 < length text
+  pub digits : AllDigits 10 text
+  pub leading : slice_index text 0 ≡ 48 → length text ≡ 1
+  pub value : n ≡ digits_value 10 text
 
 -- a group, which holds no `)`
 pub record IsGroup (part : Part) (inside : List ℕ) : Type 0 where
   pub spelled : part ≡ mark (codes "(" ++ (inside ++ codes ")"))
-  pub closed : All (λ c. c ≢ 41) inside
+  pub closed : AllByRecursion (λ c. c ≢ 41) inside
 
 -- `->` or `→`
 abbrev pub IsArrow : Part → Type 0
@@ -73,9 +84,6 @@ IsArrow part = (part ≡ mark (codes "->")) ⊎ (part ≡ mark (226 ∷ 134 ∷ 
 abbrev pub IsBackArrow : Part → Type 0
 IsBackArrow part = (part ≡ mark (codes "<-")) ⊎ (part ≡ mark (226 ∷ 134 ∷ 144 ∷ []))
 
--- the number of a value, and that of a block
-abbrev pub value_word : ℕ → Part
-value_word n = word (codes "v" ++ decimal n)
-
-abbrev pub block_word : ℕ → Part
-block_word n = word (codes "b" ++ decimal n)
+-- the number of a value or a block behind its letter; past 2^32 - 1, where none may be, it counts as 2^32 - 1
+abbrev pub IsNumbered : List ℕ → Part → ℕ → Type 0
+IsNumbered letter part n = (digits : List ℕ) × (all : ℕ) × IsDecimal digits all × (part ≡ word (letter ++ digits)) × (n ≡ min all 4294967295)

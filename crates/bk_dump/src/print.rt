@@ -3,7 +3,7 @@ ghost use Rattle.std.specs.Prelude.{◌≡◌, ◌≤◌, ◌<◌, ◌++◌, len
 ghost use Rattle.bk_dump.specs.Print.{before, first_behind, text_of, declarations, function_text, header, block_texts, symbol};
 
 mod block;
-mod part;
+pub(crate) mod part;
 mod signature;
 mod value;
 mod variable;

@@ -19,8 +19,6 @@ mod signatures;
 mod symbols;
 mod symtab;
 mod tables;
-#[cfg(test)]
-mod tests;
 mod typed;
 mod writer;
 

@@ -1,24 +1,41 @@
 //! Whether a function is in form: what every later part relies on.
 #![tactic(auto)]
 
+ghost use Rattle.std.specs.Prelude.{◌≡◌, None, Some, IfErr, MatchResult, OnOk};
+ghost use Rattle.bk_func.specs.declared.form.Place.{Place as FormPlace};
+ghost use Rattle.bk_func.specs.Form.{IsInForm, strict};
+ghost use Rattle.bk_form.specs.declared.FormError.TheVariants.{FormFault, Memory as NoMemory};
+ghost use Rattle.bk_form.specs.Judged.{KeepsBefore, IsCause, IsRefusal};
+ghost use Rattle.bk_form.specs.Names.{IsScope, measure};
+ghost use Rattle.bk_form.specs.Roots.{AreRoots};
+ghost use Rattle.bk_form.specs.Walks.{IsFlow};
+
 mod arity;
+mod carried;
+mod chains;
 mod control;
-mod graph;
+mod flow;
+mod groups;
 mod memory;
 mod missing;
 mod names;
-mod needs;
+mod naming;
 mod numbers;
 mod order;
+mod places;
 mod reach;
+mod roots;
+mod rounds;
+mod search;
+mod sent;
 mod shape;
-mod states;
 mod types;
 mod uses;
 mod width;
+mod words;
 
-use crate::graph::Graph;
-use crate::names::{Callee, Names, Scope};
+use crate::flow::Flow;
+use crate::names::{Names, Scope};
 use crate::numbers::Numbers;
 use bk_func::{Func, Package};
 pub use bk_func::{FormKind, Place};
@@ -34,6 +51,8 @@ pub enum FormError {
 }
 
 impl From<AllocError> for FormError {
+    ghost from_gives = { λ _ error. error ≡ NoMemory };
+
     fn from(_error: AllocError) -> Self {
         FormError::Memory
     }
@@ -45,45 +64,121 @@ pub fn check_form(
     pkg: &Package,
     func: &Func,
     target: Target,
-) -> Result<(), FormError> {
-    refuse(FormKind::Control, control::first_fault(alloc, func)?)?;
+) -> Result<(), FormError>
+    ensures ok { OnOk result (IsInForm pkg.now func.now target) }
+    ensures fault { IfErr result (IsRefusal pkg.now func.now target) }
+{
+    if func.blocks.is_empty() {
+        let place = Place::Block(0);
+        return Err(FormError::FormFault {
+            kind: FormKind::Control,
+            place,
+        });
+    }
+    check_blocks(alloc, pkg, func, target)
+}
+
+/// The kinds, of a function with blocks.
+fn check_blocks(alloc: Global, pkg: &Package, func: &Func, target: Target) -> Result<(), FormError>
+    ensures { MatchResult result (λ _. KeepsBefore (strict pkg.now target) func.now 8) (IsCause (strict pkg.now target) func.now) }
+{
+    let torn = control::first_fault(alloc, func)?;
+    refuse(FormKind::Control, torn)?;
     let names = Names::new(alloc, pkg)?;
     let numbers = Numbers::new(alloc, func)?;
-    let own = Callee {
-        args: &func.sig.args,
-        results: &func.sig.results,
-    };
+    let nodes = places::nodes(alloc, &func.blocks)?;
     let scope = Scope {
         pkg,
         names: &names,
-        own,
+        func,
+        numbers: &numbers,
+        nodes: &nodes,
         target,
     };
-    refuse(
-        FormKind::Missing,
-        missing::first_fault(func, &scope, &numbers),
-    )?;
-    refuse(FormKind::Arity, arity::first_fault(func, &scope))?;
-    let graph = Graph::new(alloc, func, &numbers)?;
-    refuse(FormKind::Ty, types::first_fault(&graph, &scope))?;
-    refuse(FormKind::Width, width::first_fault(&graph, &scope))?;
-    check_walks(alloc, &graph)
+    check_numbers(&scope)?;
+    check_values(alloc, &scope)
+}
+
+/// The kinds that look at numbers and counts.
+fn check_numbers(scope: &Scope) -> Result<(), FormError>
+    requires scope { IsScope scope.now }
+    requires kept { KeepsBefore (measure scope.now) scope.now.func.now 1 }
+    ensures { MatchResult result (λ _. KeepsBefore (measure scope.now) scope.now.func.now 3) (IsCause (measure scope.now) scope.now.func.now) }
+{
+    let unnamed = missing::first_fault(scope);
+    refuse(FormKind::Missing, unnamed)?;
+    let uncounted = arity::first_fault(scope);
+    refuse(FormKind::Arity, uncounted)
+}
+
+/// The kinds that look at what numbers name.
+fn check_values(alloc: Global, scope: &Scope) -> Result<(), FormError>
+    requires scope { IsScope scope.now }
+    requires kept { KeepsBefore (measure scope.now) scope.now.func.now 3 }
+    ensures { MatchResult result (λ _. KeepsBefore (measure scope.now) scope.now.func.now 8) (IsCause (measure scope.now) scope.now.func.now) }
+{
+    let flow = Flow::new(alloc, *scope)?;
+    check_flow(alloc, &flow)
+}
+
+/// The same, the values standing by place.
+fn check_flow(alloc: Global, flow: &Flow) -> Result<(), FormError>
+    requires flow { IsFlow flow.now }
+    requires kept { KeepsBefore (measure flow.now.scope) flow.now.scope.func.now 3 }
+    ensures { MatchResult result (λ _. KeepsBefore (measure flow.now.scope) flow.now.scope.func.now 8) (IsCause (measure flow.now.scope) flow.now.scope.func.now) }
+{
+    let roots = roots::roots(alloc, flow)?;
+    check_types(alloc, flow, &roots)?;
+    check_uses(alloc, flow, &roots)
+}
+
+/// The kinds that look at values one by one.
+fn check_types(alloc: Global, flow: &Flow, roots: &[Option<usize>]) -> Result<(), FormError>
+    requires flow { IsFlow flow.now }
+    requires roots { AreRoots flow.now.scope.func.now roots.now }
+    requires kept { KeepsBefore (measure flow.now.scope) flow.now.scope.func.now 3 }
+    ensures { MatchResult result (λ _. KeepsBefore (measure flow.now.scope) flow.now.scope.func.now 5) (IsCause (measure flow.now.scope) flow.now.scope.func.now) }
+{
+    let untyped = types::first_fault(alloc, flow, roots)?;
+    refuse(FormKind::Ty, untyped)?;
+    let unranged = width::first_fault(alloc, flow, roots)?;
+    refuse(FormKind::Width, unranged)
 }
 
 /// The kinds that look at walks through the blocks, and at the order inside a block.
-fn check_walks(alloc: Global, graph: &Graph) -> Result<(), FormError> {
-    refuse(FormKind::Use, uses::first_fault(alloc, graph)?)?;
-    refuse(FormKind::Memory, memory::first_fault(alloc, graph)?)?;
-    refuse(FormKind::Order, order::first_fault(alloc, graph)?)
+fn check_uses(alloc: Global, flow: &Flow, roots: &[Option<usize>]) -> Result<(), FormError>
+    requires flow { IsFlow flow.now }
+    requires roots { AreRoots flow.now.scope.func.now roots.now }
+    requires kept { KeepsBefore (measure flow.now.scope) flow.now.scope.func.now 5 }
+    ensures { MatchResult result (λ _. KeepsBefore (measure flow.now.scope) flow.now.scope.func.now 8) (IsCause (measure flow.now.scope) flow.now.scope.func.now) }
+{
+    let unreached = uses::first_fault(alloc, flow)?;
+    refuse(FormKind::Use, unreached)?;
+    check_memory(alloc, flow, roots)
+}
+
+/// The kinds that look at states of memory, and at the order inside a block.
+fn check_memory(alloc: Global, flow: &Flow, roots: &[Option<usize>]) -> Result<(), FormError>
+    requires flow { IsFlow flow.now }
+    requires roots { AreRoots flow.now.scope.func.now roots.now }
+    requires kept { KeepsBefore (measure flow.now.scope) flow.now.scope.func.now 6 }
+    ensures { MatchResult result (λ _. KeepsBefore (measure flow.now.scope) flow.now.scope.func.now 8) (IsCause (measure flow.now.scope) flow.now.scope.func.now) }
+{
+    let initial = naming::first_init(flow.scope.func);
+    let homes = naming::homes(alloc, flow, initial)?;
+    let names = naming::names(alloc, flow, roots)?;
+    let unchained = memory::first_fault(alloc, flow, roots, initial, &homes, &names)?;
+    refuse(FormKind::Memory, unchained)?;
+    let unordered = order::first_fault(alloc, flow, &homes, &names)?;
+    refuse(FormKind::Order, unordered)
 }
 
 /// The refusal of a breach of this kind.
-fn refuse(kind: FormKind, fault: Option<Place>) -> Result<(), FormError> {
+fn refuse(kind: FormKind, fault: Option<Place>) -> Result<(), FormError>
+    ensures { MatchResult result (λ _. fault ≡ None) (λ e. (place : FormPlace) × (fault ≡ Some place) × (e ≡ FormFault kind place)) }
+{
     match fault {
         Some(place) => Err(FormError::FormFault { kind, place }),
         None => Ok(()),
     }
 }
-
-#[cfg(test)]
-mod tests;

@@ -1,11 +1,10 @@
 // What the places of an op take and what it gives.
 ghost use Rattle.std.specs.Prelude.{◌≡◌, ◌≢◌, ◌↔◌, IsTrue};
+ghost use Rattle.bk_ops.specs.Table.{is_op};
 ghost use Rattle.bk_ops.specs.Types.{width_of, word_width as bits_of_word};
 ghost use Rattle.bk_func.specs.Form.Shapes.{slot, words_and_memory, is_last, first_else};
 ghost use Rattle.bk_form.specs.Slots.{seen_slot};
 
-use crate::graph::Node;
-use bk_func::Aux;
 use bk_ops::{Class, Family, Op, Target, Ty, op_info, width};
 
 /// What a place of an op takes.
@@ -120,9 +119,9 @@ pub(crate) fn is_data(ty: Ty, target: Target) -> bool
 
 /// Types of numbers are told apart by their widths alone.
 pub(crate) fn alike(one: Ty, other: Ty, target: Target) -> bool
-    ensures { IsTrue result ↔ (width_of one target ≢ 0) × (width_of one target ≡ width_of other target) }
+    ensures { IsTrue result ↔ (width_of one target ≢ 0) × (width_of other target ≡ width_of one target) }
 {
-    is_data(one, target) && width(one, target) == width(other, target)
+    is_data(one, target) && width(other, target) == width(one, target)
 }
 
 /// The bits of a machine word.
@@ -132,26 +131,13 @@ pub(crate) fn word_width(target: Target) -> u32
     width(Ty::Uintptr, target)
 }
 
-/// Whether the value is a state of memory, which later values may name. A copy is none, and the results of a
-/// function are none; a call is one, whatever its results.
-pub(crate) fn gives_state(node: &Node) -> bool {
-    match node.op.family {
-        Family::Copy | Family::MakeResult => false,
-        Family::StaticLECall => true,
-        _ => node.ty == Ty::Mem,
-    }
-}
-
-/// Whether some name has the op.
-pub(crate) fn is_op(op: Op) -> bool {
+/// Whether some name has the op: what no name has takes and gives nothing.
+pub(crate) fn is_op(op: Op) -> bool
+    ensures { result ≡ is_op op.family op.a op.b }
+{
     let info = op_info(op);
-    info.arity.is_some() || info.result != Class::Void
-}
-
-/// The type that a store writes.
-pub(crate) fn stored_ty(aux: Aux) -> Option<Ty> {
-    match aux {
-        Aux::Ty(ty) => Some(ty),
-        _ => None,
+    match info.result {
+        Class::Void => info.arity.is_some(),
+        _ => true,
     }
 }

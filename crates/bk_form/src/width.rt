@@ -1,48 +1,117 @@
 // The numbers beside ops.
+ghost use Rattle.std.specs.Prelude.{◌≡◌, ◌↔◌, ◌+◌, IsTrue, IfOk, length};
+ghost use Rattle.std.specs.List.{All};
+ghost use Rattle.bk_ops.specs.Table.{info_of, is_width};
+ghost use Rattle.bk_ops.specs.declared.table.AuxKind.TheVariants.{Int as IntKind};
+ghost use Rattle.bk_func.specs.Records.{BlockRecord, SigRecord};
+ghost use Rattle.bk_func.specs.Form.Text.{HasBlock, HasValue};
+ghost use Rattle.bk_func.specs.Form.Signatures.{ResultOf};
+ghost use Rattle.bk_func.specs.Form.Parts.{HasRange, InRange, IsSigned, IsBetween, IsResultWord, IsValueNumber};
+ghost use Rattle.bk_form.specs.Finds.{Finds, FindsIn};
+ghost use Rattle.bk_form.specs.Names.{IsScope, measure, seen_callee};
+ghost use Rattle.bk_form.specs.Places.{AllNamed};
+ghost use Rattle.bk_form.specs.Roots.{AreRoots};
+ghost use Rattle.bk_form.specs.Sent.{AnswersCalls};
+ghost use Rattle.bk_form.specs.declared.sent.Question.TheVariants.{Counted};
+ghost use Rattle.bk_form.specs.Walks.{IsFlow};
+
 use crate::Place;
-use crate::graph::{Graph, Node};
-use crate::names::Scope;
-use bk_ops::{AuxKind, Family, Target, Ty, op_info, width};
+use crate::flow::Flow;
+use crate::names::{Callee, Scope};
+use crate::sent::{Question, answers, is_marked};
+use crate::words::{is_argument_word, is_between, is_result_word};
+use bk_func::{Block, Value};
+use bk_ops::{AuxKind, Family, op_info};
+use std::alloc::{AllocError, Global};
 
 /// The first value whose number beside the op is not in the op's range.
-pub(crate) fn first_fault(graph: &Graph, scope: &Scope) -> Option<Place> {
-    for node in &graph.nodes {
-        if !fits(graph, scope, node) {
-            return Some(Place::Value(node.id));
+pub(crate) fn first_fault(
+    alloc: Global,
+    flow: &Flow,
+    roots: &[Option<usize>],
+) -> Result<Option<Place>, AllocError>
+    requires flow { IsFlow flow.now }
+    requires roots { AreRoots flow.now.scope.func.now roots.now }
+    ensures { IfOk result (Finds (λ b. Unit {0}) (λ b v. HasRange (measure flow.now.scope) flow.now.scope.func.now v (info_of v.op).aux) flow.now.scope.func.now) }
+{
+    let counted = answers(alloc, flow, roots, Question::Counted)?;
+    let fault = fault_with(&flow.scope, &counted);
+    Ok(fault)
+}
+
+/// The first fault, the words being marked whose calls have a word of an argument with their number.
+fn fault_with(scope: &Scope, counted: &[bool]) -> Option<Place>
+    requires scope { IsScope scope.now }
+    requires named { AllNamed scope.now.func.now }
+    requires counted { AnswersCalls (measure scope.now) scope.now.func.now Counted counted.now }
+    ensures { Finds (λ b. Unit {0}) (λ b v. HasRange (measure scope.now) scope.now.func.now v (info_of v.op).aux) scope.now.func.now result }
+{
+    let func = scope.func;
+    for block in &func.blocks {
+        let fault = fault_in(scope, counted, block);
+        if fault.is_some() {
+            return fault;
         }
     }
     None
 }
 
-fn fits(graph: &Graph, scope: &Scope, node: &Node) -> bool {
-    if op_info(node.op).aux != AuxKind::Int {
-        return node.int == 0;
-    }
-    match node.op.family {
-        Family::Const => is_signed(node.op.a, node.int),
-        Family::ConstBool => node.int == 0 || node.int == 1,
-        Family::Trap => 1 <= node.int && node.int <= 6,
-        Family::SelectN => is_result(graph, scope, node),
-        Family::ArgWord => is_among(node.int, 0, words(scope.own.args, scope.target)),
-        Family::RetWord => {
-            let args = words(scope.own.args, scope.target);
-            let results = words(scope.own.results, scope.target);
-            is_among(node.int, args, args.saturating_add(results))
+fn fault_in(scope: &Scope, counted: &[bool], block: &Block) -> Option<Place>
+    requires scope { IsScope scope.now }
+    requires named { AllNamed scope.now.func.now }
+    requires counted { AnswersCalls (measure scope.now) scope.now.func.now Counted counted.now }
+    requires block { HasBlock scope.now.func.now block.now }
+    ensures { FindsIn (λ b. Unit {0}) (λ b v. HasRange (measure scope.now) scope.now.func.now v (info_of v.op).aux) block.now result }
+{
+    for value in &block.values {
+        if !fits(scope, counted, value) {
+            return Some(Place::Value(value.id));
         }
+    }
+    None
+}
+
+/// Whether the number is in the op's range, and 0 beside an op that has none.
+fn fits(scope: &Scope, counted: &[bool], value: &Value) -> bool
+    requires scope { IsScope scope.now }
+    requires named { AllNamed scope.now.func.now }
+    requires counted { AnswersCalls (measure scope.now) scope.now.func.now Counted counted.now }
+    requires there { (b : BlockRecord) × HasValue scope.now.func.now b value.now }
+    ensures { IsTrue result ↔ HasRange (measure scope.now) scope.now.func.now value.now (info_of value.now.op).aux }
+{
+    match op_info(value.op).aux {
+        AuxKind::Int => is_in_range(scope, counted, value),
+        _ => value.int == 0,
+    }
+}
+
+#[tactic(auto, unfolding(bk_func::specs::Form::Parts::InRange))]
+fn is_in_range(scope: &Scope, counted: &[bool], value: &Value) -> bool
+    requires scope { IsScope scope.now }
+    requires named { AllNamed scope.now.func.now }
+    requires counted { AnswersCalls (measure scope.now) scope.now.func.now Counted counted.now }
+    requires there { (b : BlockRecord) × HasValue scope.now.func.now b value.now }
+    requires op { (info_of value.now.op).aux ≡ IntKind }
+    ensures { IsTrue result ↔ InRange (measure scope.now) scope.now.func.now value.now value.now.op.family }
+{
+    match value.op.family {
+        Family::Const => is_signed(value.op.a, value.int),
+        Family::ConstBool => is_between(value.int, 0, 2),
+        Family::Trap => is_between(value.int, 1, 7),
+        Family::SelectN => is_result(scope, value),
+        Family::ArgWord => is_argument_word(scope, scope.own(), value.int),
+        Family::RetWord => is_result_word(scope, scope.own(), value.int),
+        Family::OutWord => is_marked(scope, counted, value),
+        Family::ResWord => is_word_of_result(scope, value),
         _ => true,
     }
 }
 
-/// Whether the number is that of a result of the value's call, or of the memory behind the last.
-fn is_result(graph: &Graph, scope: &Scope, node: &Node) -> bool {
-    match results(graph, scope, node) {
-        Some(count) => is_among(node.int, 0, count.saturating_add(1)),
-        None => false,
-    }
-}
-
 /// Whether the number is one of this many bits with a sign.
-fn is_signed(bits: u8, int: i64) -> bool {
+fn is_signed(bits: u8, int: i64) -> bool
+    requires { IsTrue (is_width bits) }
+    ensures { IsTrue result ↔ IsSigned bits int }
+{
     match bits {
         8 => -128 <= int && int <= 127,
         16 => -32_768 <= int && int <= 32_767,
@@ -51,26 +120,33 @@ fn is_signed(bits: u8, int: i64) -> bool {
     }
 }
 
-/// The count of results of the call that the value takes one of.
-fn results(graph: &Graph, scope: &Scope, node: &Node) -> Option<usize> {
-    let call = graph.node(*node.args.as_slice().first()?)?;
-    Some(scope.callee_of(call.aux)?.results.len())
-}
-
-/// Whether the number is at least `low` and below `high`.
-fn is_among(int: i64, low: usize, high: usize) -> bool {
-    match usize::try_from(int) {
-        Ok(number) => low <= number && number < high,
-        Err(_) => false,
+/// Whether the number is that of a result of the value's call, or of the memory behind the last.
+fn is_result(scope: &Scope, value: &Value) -> bool
+    requires scope { IsScope scope.now }
+    requires named { All (IsValueNumber scope.now.func.now) value.now.args }
+    ensures { IsTrue result ↔ ((g : SigRecord) × ResultOf scope.now.pkg.now scope.now.func.now value.now g × IsBetween value.now.int 0 (length g.results + 1)) }
+{
+    match scope.call_of(value) {
+        Some(callee) => is_number_of(callee, value.int),
+        None => false,
     }
 }
 
-/// The machine words of values of the types.
-fn words(types: &[Ty], target: Target) -> usize {
-    let mut count = 0usize;
-    for ty in types {
-        let wide = target == Target::Arm && width(*ty, target) == 64;
-        count = count.saturating_add(if wide { 2 } else { 1 });
+/// Whether the number is that of a result of the callee, or of the memory behind the last.
+fn is_number_of(callee: Callee, int: i64) -> bool
+    ensures { IsTrue result ↔ IsBetween int 0 (length (seen_callee callee.entry).results + 1) }
+{
+    is_between(int, 0, callee.results.len() as u64 + 1)
+}
+
+/// Whether the number is that of a word of a result of the value's call.
+fn is_word_of_result(scope: &Scope, value: &Value) -> bool
+    requires scope { IsScope scope.now }
+    requires named { All (IsValueNumber scope.now.func.now) value.now.args }
+    ensures { IsTrue result ↔ ((g : SigRecord) × ResultOf scope.now.pkg.now scope.now.func.now value.now g × IsResultWord (measure scope.now) g value.now.int) }
+{
+    match scope.call_of(value) {
+        Some(callee) => is_result_word(scope, callee, value.int),
+        None => false,
     }
-    count
 }

@@ -190,13 +190,18 @@ performed calls p f b (v ∷ vs) a w =
 
 -- blocks
 
--- a phi takes the number of its argument in the edge's place
+-- the number of a value that may be there, 0 where none is
+abbrev pub number_named : (ℕ → ℕ) → Option ℕ → ℕ
+number_named m None = 0
+number_named m (Some id) = m id
+
+-- a phi takes the number of its argument in the edge's place, 0 where it has none there, as in the entry
 abbrev pub phi_by : Option ValueRecord → ℕ → (ℕ → ℕ) → ℕ → ℕ
 phi_by None place m old = old
 phi_by (Some v) place m old = of_origin (origin_of v.op.family)
   where
     of_origin : Origin → ℕ
-    of_origin phi = m (slice_index v.args place)
+    of_origin phi = number_named m (slice_get v.args place)
     of_origin _ = old
 
 -- the state that a block begins with: its memory phi, in the entry the first state of all, else the state before it

@@ -1,5 +1,5 @@
 -- What memory values do, from what their calls say of the window.
-use Rattle.std.proofs.Common.{◌≡◌, ℕ, ◌+◌, ◌%◌, ◌^◌, refl, ap, sym, ◌∙◌, arith, List, [], ◌∷◌, length, Option, Some, None, Bool, true, false}
+use Rattle.std.proofs.Common.{◌≡◌, ℕ, ◌+◌, ◌%◌, ◌^◌, refl, ap, sym, ◌∙◌, List, Option, Some, None, Bool, true, false}
 use Rattle.std.specs.Prelude.{if◌then◌else◌, ◌==◌, slice_range, slice_index, unwrap_or, ◌-◌}
 use Rattle.std.proofs.Math.Path.{fun_ext}
 use Rattle.bk_num.specs.Word.{residue}

@@ -15,7 +15,7 @@ use Rattle.bk_func.specs.Form.Before.{IsTakenBy}
 use Rattle.bk_func.specs.Form.Signatures.{Setting}
 use Rattle.bk_func.proofs.Faults.{In}
 use Rattle.bk_func.proofs.Flat.{Laid}
-use Rattle.bk_mean.specs.Arranged.{Due, Later, by_level, by_class, by_place, anytime, class_of, level_in, due_of, Filled, none, put}
+use Rattle.bk_mean.specs.Arranged.{Due, Later, by_level, by_class, by_place, anytime, class_of, level_in, due_of, TakesAt, Filled, none, put}
 use Rattle.bk_mean.proofs.Named.{to_in, to_contains, got_in, in_left, in_right, in_got, in_either}
 use Rattle.bk_mean.proofs.Dominance.{reached_block}
 use Rattle.bk_mean.proofs.Formed.{Sound}
@@ -45,13 +45,13 @@ class_load v c e = rw (c, e) refl
 class_effect : (v : ValueRecord) → asks v ≡ false → has_effect v ≡ true → class_of v ≡ Some 2
 class_effect v a e = let q = or_parts (is_check (origin_of v.op.family)) (is_load (origin_of v.op.family)) a in rw (q.0, q.1, e) refl
 
-class_none : (v : ValueRecord) → acts v ≡ false → class_of v ≡ None
+pub class_none : (v : ValueRecord) → acts v ≡ false → class_of v ≡ None
 class_none v a =
     let q = or_parts (has_effect v) (asks v) a in
     let r = or_parts (is_check (origin_of v.op.family)) (is_load (origin_of v.op.family)) q.1 in
     rw (r.0, r.1, q.0) refl
 
-class_some : (v : ValueRecord) → acts v ≡ true → (c : ℕ) × (class_of v ≡ Some c)
+pub class_some : (v : ValueRecord) → acts v ≡ true → (c : ℕ) × (class_of v ≡ Some c)
 class_some v a = go (is_check (origin_of v.op.family)) refl (is_load (origin_of v.op.family)) refl (or_cases (has_effect v) (asks v) a)
   where
     go : (t : Bool) → is_check (origin_of v.op.family) ≡ t → (u : Bool) → is_load (origin_of v.op.family) ≡ u → (has_effect v ≡ true) ⊎ (asks v ≡ true) → (c : ℕ) × (class_of v ≡ Some c)
@@ -81,7 +81,7 @@ level_found n xs i =
 
 -- the state of a value that is done at one is the first of the block or follows it
 
-chain_short : (k : ℕ) (f : FuncRecord) (b : BlockRecord) (m : ℕ) → length (chain k f b m) ≤ k
+pub chain_short : (k : ℕ) (f : FuncRecord) (b : BlockRecord) (m : ℕ) → length (chain k f b m) ≤ k
 unfolding chain
 chain_short zero f b m = omega arith
 chain_short (suc k) f b m = go (next_at f b m) (λ n. chain_short k f b n)
@@ -94,7 +94,7 @@ met_in : (m : ℕ) (vs : List ValueRecord) (n : ℕ) → IsMet m vs n → In n (
 met_in m vs n (inl e) = inl (sym e)
 met_in m vs n (inr i) = inr i
 
-act_met : (s : Setting) (f : FuncRecord) → Sound s f → (b : BlockRecord) → IsReached f b → (m : ℕ) → Meets f b m → (v : ValueRecord) → HasValue f b v → acts v ≡ true →
+pub act_met : (s : Setting) (f : FuncRecord) → Sound s f → (b : BlockRecord) → IsReached f b → (m : ℕ) → Meets f b m → (v : ValueRecord) → HasValue f b v → acts v ≡ true →
     (n : ℕ) × (state_of f v ≡ Some n) × In n (first_state b m ∷ numbers_of (chain_from f b (first_state b m)))
 act_met s f h b r m meets v i a = go (or_cases (has_effect v) (asks v) a)
   where
@@ -226,10 +226,6 @@ rising_mid (x ∷ xs) v ys h =
       beyond = r.beyond;
       rest = (λ j i. h.0 j (elim (in_either j xs ys i) as (λ _. In j (xs ++ v ∷ ys)) [ inl a ↦ in_left j xs (v ∷ ys) a | inr a ↦ in_right j xs (v ∷ ys) (inr a) ]), r.rest);
     }
-
--- the value at one place takes that at the other, which stands in the block too, and is no phi
-abbrev pub TakesAt : BlockRecord → ℕ → ℕ → Type 0
-TakesAt b x y = (u v : ValueRecord) × (slice_get b.values x ≡ Some u) × (slice_get b.values y ≡ Some v) × IsTakenBy b v u
 
 -- when the places are due and what they take, by the values there
 pub record Reads (f : FuncRecord) (b : BlockRecord) (m : ℕ) (when : ℕ → Option Due) (take : ℕ → ℕ → Type 0) : Type 0 where

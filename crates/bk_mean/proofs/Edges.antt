@@ -1,12 +1,12 @@
 -- The place of an edge among the predecessors of the block that it leads to, and what a phi takes there.
 use Rattle.std.proofs.Common.{◌≡◌, ℕ, zero, suc, ◌+◌, ◌-◌, ◌<◌, ◌==◌, refl, ap, sym, ◌∙◌, subst, arith, ◌⊎◌, inl, inr, List, [], ◌∷◌, take, Some, Bool, true, false, cond, eq-eqb, ne_eqb}
-use Rattle.std.specs.Prelude.{sum_by, count_by, slice_get, slice_index, if◌then◌else◌}
+use Rattle.std.specs.Prelude.{sum_by, count_by, slice_get, if◌then◌else◌}
 use Rattle.std.proofs.lemmas.Bool.{cases_eq}
 use Rattle.std.proofs.lemmas.List.Sums.{sum_by-cons}
 use Rattle.bk_func.specs.Records.{ValueRecord, BlockRecord, FuncRecord}
 use Rattle.bk_func.specs.Numbers.{Program, origin_of, numbers}
 use Rattle.bk_func.specs.Edits.{nth_place, rank_in}
-use Rattle.bk_func.specs.Meaning.{World, Activation, edge_place, entered}
+use Rattle.bk_func.specs.Meaning.{World, Activation, edge_place, entered, number_named}
 use Rattle.bk_func.specs.declared.form.FormKind.TheVariants.{Control, Missing, Use}
 use Rattle.bk_func.specs.Form.{Keeps}
 use Rattle.bk_func.specs.Form.Text.{HasBlock, HasValue, IsPhi}
@@ -129,7 +129,7 @@ phi_argument_defined s f h b c v i j p place n at got = ((h c j.0).value v j.1).
 
 -- where a block is entered, a phi has the number of what it takes there
 pub phi_entered : (s : Setting) (f : FuncRecord) → Sound s f → (p : Program) (b : BlockRecord) (v : ValueRecord) → HasValue f b v → IsReached f b → IsPhi v → (place : ℕ) (a : Activation) (w : World) →
-    numbers p f (entered p f b place a w).env v.id ≡ numbers p f a.env (slice_index v.args place)
+    numbers p f (entered p f b place a w).env v.id ≡ number_named (numbers p f a.env) (slice_get v.args place)
 phi_entered s f h p b v i r q place a w =
     solved p f (entered p f b place a w).env (IsLive f) (rank f) (ranks s f h) v.id (record { block = b; value = v; stands = i; named = refl; reached = r })
     ∙ rw (found_value f h.named b v v.id i refl, ap origin_of q, found_here f h.named b v i, ap origin_of q) refl

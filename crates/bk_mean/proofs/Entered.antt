@@ -1,11 +1,11 @@
 -- Runs that enter no block.
-use Rattle.std.proofs.Common.{◌≡◌, ℕ, ◌<◌, refl, ap, sym, ◌∙◌, arith, ◌⊎◌, inl, inr, List, Option, Some, None, Bool, true, false, ltb}
+use Rattle.std.proofs.Common.{◌≡◌, ℕ, refl, ap, sym, ◌∙◌, arith, inl, inr, List, Some, Bool, true, false}
 use Rattle.std.specs.Prelude.{slice_get, slice_index, nat_lt, if◌then◌else◌, ◌-◌}
 use Rattle.std.proofs.lemmas.Bool.Decides.{nat_tests}
 use Rattle.bk_func.specs.Records.{FuncRecord}
 use Rattle.bk_func.specs.Words.{fitted}
 use Rattle.bk_func.specs.Numbers.{Program}
-use Rattle.bk_func.specs.Meaning.{Outcome, trapped, going, World, Run, stops, Entries, run, begun_in, fitted_run, fresh, entry_id, ended, meaning}
+use Rattle.bk_func.specs.Meaning.{trapped, going, World, stops, run, begun_in, fitted_run, fresh, entry_id, ended, meaning}
 use Rattle.bk_mean.specs.Eval.{EntersNone, end_of_none}
 
 abbrev start : List ℕ → ℕ → World

@@ -1,5 +1,5 @@
 -- The first place of a number in a list, as far as the list was read; and the starts of variables.
-use Rattle.std.proofs.Common.{◌≡◌, ℕ, zero, suc, ◌+◌, ◌<◌, ◌≤◌, refl, ap, sym, ◌∙◌, arith, ◌⊎◌, inl, inr, List, [], ◌∷◌, ◌++◌, length, drop, map, get_or, Option, Some, None, Bool, true, false, cond, ltb, append_assoc}
+use Rattle.std.proofs.Common.{◌≡◌, ℕ, zero, suc, ◌+◌, ◌<◌, ◌≤◌, refl, ap, sym, ◌∙◌, arith, ◌⊎◌, inl, inr, List, [], ◌∷◌, length, drop, map, get_or, Option, Some, None, Bool, true, false, cond, ltb}
 use Rattle.std.specs.Prelude.{◌==◌, position, if◌then◌else◌, slice_index, not}
 use Rattle.std.specs.List.{position_from, position_or_len, find}
 use Rattle.std.proofs.lemmas.Bool.{eqb-true}

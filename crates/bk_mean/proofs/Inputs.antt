@@ -1,6 +1,6 @@
 -- The numbers of values from those at the places of their arguments.
-use Rattle.std.proofs.Common.{◌≡◌, ℕ, ℤ, zero, suc, ◌<◌, refl, ap, sym, ◌∙◌, arith, List, [], ◌∷◌, length, map, Option, Some, None, Bool, true, false}
-use Rattle.std.specs.Prelude.{slice_index, slice_get, unwrap_or, if◌then◌else◌}
+use Rattle.std.proofs.Common.{◌≡◌, ℕ, ℤ, zero, suc, ◌<◌, ap, sym, ◌∙◌, arith, List, [], ◌∷◌, length, map, Option, None, Bool, true}
+use Rattle.std.specs.Prelude.{slice_index, unwrap_or, if◌then◌else◌}
 use Rattle.bk_ops.specs.Table.{is_op}
 use Rattle.bk_ops.specs.Values.{op_value, pure_value}
 use Rattle.bk_ops.specs.declared.table.Op.{Op}
@@ -8,7 +8,7 @@ use Rattle.bk_ops.specs.declared.types.Target.{Target}
 use Rattle.bk_ops.specs.declared.types.Ty.{Ty}
 use Rattle.bk_func.specs.Records.{ValueRecord, FuncRecord}
 use Rattle.bk_func.specs.Words.{all_words}
-use Rattle.bk_func.specs.Numbers.{Program, Env, argument, argument_word, address, checked, same, computed, number_by, natural, place_of_arg, address_of}
+use Rattle.bk_func.specs.Numbers.{Program, Env, argument, argument_word, computed, number_by, natural, place_of_arg}
 use Rattle.bk_mean.specs.Machine.{arg_number}
 use Rattle.bk_mean.specs.Step.{Reads, Stands}
 

@@ -1,13 +1,13 @@
 -- A table of numbers through a block: it knows the numbers that are known, turn by turn and over an edge.
 use Rattle.std.proofs.Common.{◌≡◌, ℕ, refl, ap, sym, ◌∙◌, subst, ◌⊎◌, inl, inr, List, [], ◌∷◌, ◌++◌, Some, true, false}
-use Rattle.std.specs.Prelude.{slice_index}
+use Rattle.std.specs.Prelude.{slice_get, slice_index}
 use Rattle.std.proofs.lemmas.Bool.{cases_eq}
 use Rattle.bk_ops.specs.declared.family.Family.{Family}
 use Rattle.bk_ops.specs.declared.family.Family.TheVariants as op
 use Rattle.bk_func.specs.Records.{ValueRecord, BlockRecord, FuncRecord}
 use Rattle.bk_func.specs.Numbers.{Program, Env, result, origin_of, numbers, natural}
 use Rattle.bk_func.specs.Effects.{has_effect}
-use Rattle.bk_func.specs.Meaning.{World, Run, gives, stops, Activation, Calls, entered}
+use Rattle.bk_func.specs.Meaning.{World, Run, gives, stops, Activation, Calls, entered, number_named}
 use Rattle.bk_func.specs.Form.Text.{HasValue, Defines, IsPhi}
 use Rattle.bk_func.specs.Form.Walks.{IsReached, IsDefinedAt}
 use Rattle.bk_func.specs.Form.Before.{IsTakenBy}
@@ -33,17 +33,20 @@ unfolding FitsPlace slot
 by_call s f u v (inl o) h = inl ((let P : Family → Type 0 = λ g. FitsPlace s f u g 0 v in subst P o h) ∙ ap call_family o)
 by_call s f u v (inr o) h = inr ((let P : Family → Type 0 = λ g. FitsPlace s f u g 0 v in subst P o h) ∙ ap call_family o)
 
--- what has results has an effect
+-- what has results is a call, and has an effect
+pub call_families : (s : Setting) (f : FuncRecord) → Sound s f → (b : BlockRecord) (v u : ValueRecord) → HasValue f b v → IsResultOf f b v u → (v.op.family ≡ op.StaticLECall) ⊎ (v.op.family ≡ op.Call)
+call_families s f h b v u i (iu, o, e) =
+    by_call s f u v (result_families u o) ((h.types b u iu).args 0 b v i (first_argument u 0 (result_args s f b u (h.rows b u iu) o).0 ∙ ap Some e))
+
 pub call_acts : (s : Setting) (f : FuncRecord) → Sound s f → (b : BlockRecord) (v u : ValueRecord) → HasValue f b v → IsResultOf f b v u → has_effect v ≡ true
-call_acts s f h b v u i (iu, o, e) =
-    go (by_call s f u v (result_families u o) ((h.types b u iu).args 0 b v i (first_argument u 0 (result_args s f b u (h.rows b u iu) o).0 ∙ ap Some e)))
+call_acts s f h b v u i q = go (call_families s f h b v u i q)
   where
     go : (v.op.family ≡ op.StaticLECall) ⊎ (v.op.family ≡ op.Call) → has_effect v ≡ true
     go (inl d) = rw d refl
     go (inr d) = rw d refl
 
 -- a result takes its call
-result_takes : (s : Setting) (f : FuncRecord) → Sound s f → (b : BlockRecord) (v u : ValueRecord) → HasValue f b v → IsResultOf f b v u → IsTakenBy b v u
+pub result_takes : (s : Setting) (f : FuncRecord) → Sound s f → (b : BlockRecord) (v u : ValueRecord) → HasValue f b v → IsResultOf f b v u → IsTakenBy b v u
 result_takes s f h b v u i (iu, o, e) =
     let P : ℕ → Type 0 = λ x. In x u.args in
     (i.1, iu.1, (λ q. let d = ap origin_of q in absurd cc), to_contains v.id u.args (subst P e (got_in u.args 0 (slice_index u.args 0) (first_argument u 0 (result_args s f b u (h.rows b u iu) o).0))))
@@ -121,7 +124,7 @@ knows_end s f b ls all p m e knows n d = knows n (record { defined = d; settled 
 pub knows_entered : (s : Setting) (f : FuncRecord) → Sound s f → (p : Program) (b : BlockRecord) → IsReached f b → (place : ℕ) (a : Activation) (w : World) → IsShown a w → (m n : ℕ → ℕ) →
     ((x : ℕ) → IsDefinedAt f b x → ¬ Defines b x → m x ≡ numbers p f a.env x) →
     ((x : ℕ) → ((u : ValueRecord) → HasValue f b u → IsPhi u → ¬ (u.id ≡ x)) → n x ≡ m x) →
-    ((u : ValueRecord) → HasValue f b u → IsPhi u → n u.id ≡ numbers p f a.env (slice_index u.args place)) →
+    ((u : ValueRecord) → HasValue f b u → IsPhi u → n u.id ≡ number_named (numbers p f a.env) (slice_get u.args place)) →
     Knows p f b [] n (entered p f b place a w).env
 knows_entered s f h p b r place a w shown m n before same phis x known = go (borne b.values x)
   where

@@ -106,7 +106,7 @@ chain_at f b _ _ (done m out) j w e = absurd cc
 chain_at f b _ _ (next m v vs t c) zero w e = (m, refl, (let d : v ≡ w = cc in let P : ValueRecord → Type 0 = λ x. Follows f b m x in subst P d t))
 chain_at f b _ _ (next m v vs t c) (suc j) w e = let q = chain_at f b v.id vs c j w e in (q.0, q.1, q.2)
 
-number_at : (vs : List ValueRecord) (j n : ℕ) → slice_get (numbers_of vs) j ≡ Some n → (w : ValueRecord) × (slice_get vs j ≡ Some w) × (w.id ≡ n)
+pub number_at : (vs : List ValueRecord) (j n : ℕ) → slice_get (numbers_of vs) j ≡ Some n → (w : ValueRecord) × (slice_get vs j ≡ Some w) × (w.id ≡ n)
 number_at [] j n e = absurd cc
 number_at (v ∷ vs) zero n e = (v, refl, cc)
 number_at (v ∷ vs) (suc j) n e = number_at vs j n e

@@ -1,5 +1,5 @@
 -- No op takes more than four arguments.
-use Rattle.std.proofs.Common.{◌≡◌, ℕ, ℤ, refl, List, [], ◌∷◌, length, ◌≤◌, arith, Option, Some, None, Bool, true, false}
+use Rattle.std.proofs.Common.{◌≡◌, ℕ, ℤ, refl, List, [], ◌∷◌, length, ◌≤◌, arith, None, Bool, true, false}
 use Rattle.std.specs.Prelude.{if◌then◌else◌}
 use Rattle.bk_ops.specs.declared.types.Target.{Target}
 use Rattle.bk_ops.specs.declared.table.Op.{Op}

@@ -1,8 +1,8 @@
 -- What is known of a function before a run, as far as it was made.
-use Rattle.std.proofs.Common.{◌≡◌, ℕ, zero, suc, ◌+◌, ◌<◌, ◌≤◌, refl, ap, sym, ◌∙◌, subst, arith, ◌⊎◌, inl, inr, List, [], ◌∷◌, ◌++◌, length, take, drop, map, get_or, length-append, append_assoc, Option, Some, None, Bool, true, false}
+use Rattle.std.proofs.Common.{◌≡◌, ℕ, zero, suc, ◌+◌, ◌<◌, ◌≤◌, refl, ap, sym, ◌∙◌, subst, arith, ◌⊎◌, inl, inr, List, [], ◌∷◌, ◌++◌, length, take, drop, get_or, length-append, append_assoc, Option, Some, None, Bool, true, false}
 use Rattle.std.specs.Prelude.{◌==◌, if◌then◌else◌, flat_map, slice_get, slice_index, count_by}
 use Rattle.std.specs.List.{AllZip}
-use Rattle.std.proofs.lemmas.List.{take_more, map_more, drop_more}
+use Rattle.std.proofs.lemmas.List.{take_more, drop_more}
 use Rattle.std.proofs.lemmas.Grind.{flat_map-append}
 use Rattle.bk_func.specs.Records.{ValueRecord, BlockRecord, FuncRecord, PackageRecord}
 use Rattle.bk_func.specs.Numbers.{origin_of}
@@ -109,3 +109,19 @@ edge_is b index to n rank o h k e =
     go : (o : Option BlockRecord) → nth_in b.id (rank_in (Some b) index) o ≡ edge_place b index o
     go None = refl
     go (Some c) = refl
+
+-- the blocks so far have no more values than all
+pub count_under : (bs : List BlockRecord) (i : ℕ) → count_values (take i bs) ≤ count_values bs
+count_under [] zero = omega arith
+count_under [] (suc i) = omega arith
+count_under (b ∷ bs) zero = omega arith
+count_under (b ∷ bs) (suc i) =
+    let l = length-append b.values (flat_map (λ (c : BlockRecord). c.values) (take i bs)) in
+    let k = length-append b.values (flat_map (λ (c : BlockRecord). c.values) bs) in
+    let r = count_under bs i in
+    omega (arith, l, k, r)
+
+pub get_at : {A : Type 0} (xs : List A) (i : ℕ) (x : A) → i < length xs → x ≡ get_or xs i x → slice_get xs i ≡ Some x
+get_at [] i x l e = absurd (omega (arith, l))
+get_at (y ∷ ys) zero x l e = ap Some (sym e)
+get_at (y ∷ ys) (suc i) x l e = get_at ys i x (omega (arith, l)) e

@@ -1,12 +1,11 @@
 -- The numbers and faults of values in their turn.
-use Rattle.std.proofs.Common.{◌≡◌, ℕ, ◌<◌, ◌%◌, ◌^◌, refl, ap, sym, ◌∙◌, arith, List, length, Option, Some, None}
-use Rattle.std.specs.Prelude.{slice_index, slice_set, unwrap_or, if◌then◌else◌, ◌==◌}
-use Rattle.bk_ops.specs.Types.{word_width}
+use Rattle.std.proofs.Common.{◌≡◌, ℕ, refl, ap, sym, ◌∙◌, List, None}
+use Rattle.std.specs.Prelude.{slice_set, unwrap_or}
 use Rattle.bk_ops.specs.declared.types.Target.{Target}
 use Rattle.bk_ops.specs.declared.types.Ty.{Ty}
 use Rattle.bk_func.specs.Records.{ValueRecord, FuncRecord}
-use Rattle.bk_func.specs.Numbers.{Program, Env, loaded, number_by, made_of, read_at, address_by, state_of}
-use Rattle.bk_func.specs.Meaning.{trapped, fault_by, Outcome}
+use Rattle.bk_func.specs.Numbers.{Program, Env, loaded, number_by, made_of, read_at, address_by}
+use Rattle.bk_func.specs.Meaning.{fault_by}
 use Rattle.bk_mean.specs.declared.role.Origin.{Origin}
 use Rattle.bk_mean.specs.declared.role.Origin.TheVariants as rust
 use Rattle.bk_mean.specs.Seen.{seen_origin}

@@ -112,7 +112,7 @@ state_named s f h b v i r p c m (k, n, at, e, t) =
     let l = (argument_falls s f h b v i r p n (got_in v.args k n e)).0 in
     ap (option_map (memory_at (room f) f)) (named_at s f h b v i c k n at e) ∙ ap Some (memory_stands s f h (room f) n m l (rank_below_room s f h n l) t)
 
-arg_named : (s : Setting) (f : FuncRecord) → Sound s f → (b : BlockRecord) (v : ValueRecord) → HasValue f b v → (n : ℕ) → memory_arg (origin_of v.op.family) v ≡ Some n →
+pub arg_named : (s : Setting) (f : FuncRecord) → Sound s f → (b : BlockRecord) (v : ValueRecord) → HasValue f b v → (n : ℕ) → memory_arg (origin_of v.op.family) v ≡ Some n →
     (k : ℕ) × NamesAt v k × (slice_get v.args k ≡ Some n)
 arg_named s f h b v i n e = go (origin_of v.op.family) refl e
   where

@@ -1,11 +1,11 @@
 -- Zeros in a window, and bytes that are copied.
-use Rattle.std.proofs.Common.{◌≡◌, ℕ, zero, suc, ◌+◌, ◌-◌, ◌*◌, ◌/◌, ◌%◌, ◌<◌, ◌≤◌, refl, ap, sym, ◌∙◌, arith, List, [], ◌∷◌, ◌++◌, length, take, drop, replicate, Option, Some, None, Bool, true, false, get_or, append_assoc, length-drop}
+use Rattle.std.proofs.Common.{◌≡◌, ℕ, zero, suc, ◌+◌, ◌-◌, ◌*◌, ◌/◌, ◌%◌, ◌<◌, refl, ap, sym, ◌∙◌, arith, List, [], ◌∷◌, ◌++◌, length, take, drop, replicate, Some, None, Bool, true, false, get_or, append_assoc, length-drop}
 use Rattle.std.specs.Prelude.{if◌then◌else◌}
 use Rattle.std.proofs.Math.ListN.{drop_of_length-le}
 use Rattle.std.proofs.Math.Seq.{take-length}
 use Rattle.std.proofs.lemmas.List.{append-nil, length-take-le}
 use Rattle.bk_num.proofs.Bytes.{bounds, load_is}
-use Rattle.bk_num.specs.Bytes.{number, bytes, is_within, store_in, load_in, written}
+use Rattle.bk_num.specs.Bytes.{number, bytes, is_within, store_in, written}
 use Rattle.bk_num.specs.Memory.{data_base}
 use Rattle.bk_ops.specs.Memory.{with_zeros, with_move, with_moved, do_overlap}
 

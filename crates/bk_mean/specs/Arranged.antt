@@ -1,9 +1,15 @@
 -- The order in which the values of a block are done.
-use Rattle.std.specs.Prelude.{◌≡◌, ℕ, ◌+◌, ◌<◌, ◌==◌, if◌then◌else◌, List, [], ◌∷◌, ◌++◌, map, position, Option, Some, None, ◌⊎◌}
-use Rattle.std.specs.List.{Contains, slice_get}
+use Rattle.std.specs.Prelude.{◌≡◌, ℕ, ◌<◌, ◌==◌, if◌then◌else◌, List, [], ◌∷◌, ◌++◌, length, map, position, slice_get, Option, Some, None, option_and_then, ◌⊎◌}
+use Rattle.std.specs.List.{All, Contains, range_with_len}
 use Rattle.bk_func.specs.Records.{ValueRecord, BlockRecord, FuncRecord}
 use Rattle.bk_func.specs.Numbers.{origin_of, state_of}
 use Rattle.bk_func.specs.Effects.{is_check, is_load, has_effect, chain_from}
+use Rattle.bk_func.specs.Meaning.{first_state}
+use Rattle.bk_func.specs.Form.{IsFormed}
+use Rattle.bk_func.specs.Form.Walks.{IsReached}
+use Rattle.bk_func.specs.Form.States.{IsFirstState}
+use Rattle.bk_func.specs.Form.Before.{IsTakenBy}
+use Rattle.bk_func.specs.Form.Signatures.{Setting}
 
 -- when a value is due: the level of its state of memory, its class there and its place in the block
 pub record Due : Type 0 where
@@ -46,3 +52,19 @@ pub data Filled (due : ℕ → Option Due) (takes : ℕ → ℕ → Type 0) : Li
   put : (xs ys zs : List ℕ) (v : ℕ) (d : Due) → due v ≡ Some d → ((x : ℕ) → Contains (xs ++ v ∷ ys) x → ¬ takes x v)
       → ((y : ℕ) (e : Due) → Contains (xs ++ ys) y → due y ≡ Some e → ((x : ℕ) × Contains (xs ++ v ∷ ys) x × takes x y) ⊎ Later d e)
       → Filled due takes (xs ++ ys) zs → Filled due takes (xs ++ v ∷ ys) (zs ++ v ∷ [])
+
+-- the same of the value that stands at the place
+abbrev pub due_at : FuncRecord → BlockRecord → ℕ → ℕ → Option Due
+due_at f b s k = option_and_then (due_of f b s k) (slice_get b.values k)
+
+-- the value at one place takes that at the other, which stands in the block too, and is no phi
+abbrev pub TakesAt : BlockRecord → ℕ → ℕ → Type 0
+TakesAt b x y = (u v : ValueRecord) × (slice_get b.values x ≡ Some u) × (slice_get b.values y ≡ Some v) × IsTakenBy b v u
+
+-- the order in which the values of a block are done, by their places; where all walks lead to the block with one state, that is
+-- the state that it begins with, unless it has a first state of its own
+pub record IsOrdered (f : FuncRecord) (b : BlockRecord) (zs : List ℕ) : Type 0 where
+  pub short : length b.values < anytime
+  pub within : All (λ k. k < length b.values) zs
+  pub filled : (s : Setting) → IsFormed s f → IsReached f b → (m : ℕ) → ((n : ℕ) → IsFirstState f b n → n ≡ m)
+      → Filled (due_at f b (first_state b m)) (TakesAt b) (range_with_len 0 (length b.values)) zs

@@ -1,9 +1,12 @@
 -- Which function is run, and whether the numbers fit it.
-use Rattle.std.specs.Prelude.{◌≡◌, ℕ, ◌<◌, nat_lt, ◌⊎◌, if◌then◌else◌, Bool, true, false, List, Option, Some, None, position, slice_get, slice_index, bytes_eq}
+use Rattle.std.specs.Prelude.{◌≡◌, ℕ, ◌<◌, nat_lt, ◌⊎◌, if◌then◌else◌, Bool, true, false, List, Option, Some, None, position, slice_get, bytes_eq}
+use Rattle.std.specs.List.{All}
 use Rattle.bk_ops.specs.declared.types.Target.{Target}
 use Rattle.bk_func.specs.Records.{FuncRecord, PackageRecord}
 use Rattle.bk_func.specs.Arguments.{fit}
 use Rattle.bk_func.specs.Numbers.{Program}
+use Rattle.bk_func.specs.Form.{IsFormed, IsInForm}
+use Rattle.bk_func.specs.Form.Signatures.{Setting}
 use Rattle.bk_func.specs.Meaning.{Outcome, trapped, going}
 
 abbrev pub is_name : Option (List ℕ) → List ℕ → Bool
@@ -33,3 +36,11 @@ EntersNone bound stack frame = (bound ≡ 0) ⊎ (stack < frame)
 
 abbrev pub end_of_none : ℕ → ℕ → Outcome
 end_of_none stack frame = if nat_lt stack frame then trapped 5 else going
+
+-- each function of the package is in form, in one of the settings of form
+abbrev pub AreFormed : PackageRecord → Type 0
+AreFormed p = All (λ f. (s : Setting) × IsFormed s f) p.funcs
+
+-- each is in form as it is read
+abbrev pub AreInForm : PackageRecord → Target → Type 0
+AreInForm p t = All (λ f. IsInForm p f t) p.funcs

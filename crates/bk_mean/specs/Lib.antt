@@ -1,8 +1,13 @@
 pub mod Arranged
+pub mod Dues
 pub mod Eval
+pub mod Left
 pub mod Machine
+pub mod Memories
 pub mod Numbering
 pub mod Ready
+pub mod Running
 pub mod Seen
 pub mod Step
 pub mod Symbols
+pub mod Turned

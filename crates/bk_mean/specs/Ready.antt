@@ -1,18 +1,19 @@
 -- What is known of a function before a run.
-use Rattle.std.specs.Prelude.{◌≡◌, ℕ, ◌+◌, ◌<◌, ◌==◌, Bool, true, false, if◌then◌else◌, List, [], ◌∷◌, length, map, flat_map, take, position, slice_index, slice_get, Option, Some, None}
+use Rattle.std.specs.Prelude.{◌≡◌, ℕ, ◌+◌, ◌<◌, ◌==◌, Bool, true, false, if◌then◌else◌, List, [], ◌∷◌, length, map, flat_map, filter, take, position, slice_index, slice_get, get_or, Option, Some, None, option_and_then}
 use Rattle.std.specs.List.{AllZip}
 use Rattle.bk_ops.specs.declared.family.Family.{Family}
 use Rattle.bk_ops.specs.declared.family.Family.TheVariants as op
 use Rattle.bk_func.specs.Records.{ValueRecord, BlockRecord, FuncRecord, PackageRecord}
 use Rattle.bk_func.specs.Edits.{block_of, nth_place}
-use Rattle.bk_func.specs.Numbers.{origin_of, values_of, room, address_of}
-use Rattle.bk_func.specs.Effects.{is_phi}
+use Rattle.bk_func.specs.Numbers.{Origin, result, origin_of, values_of, room, natural, address_of}
+use Rattle.bk_func.specs.Effects.{is_phi, is_at}
 use Rattle.bk_func.specs.Meaning.{symbol_of, is_make_result, edge_place}
 use Rattle.bk_mean.specs.declared.ready.Ready.{Ready}
 use Rattle.bk_mean.specs.declared.ready.ReadyValue.{ReadyValue}
 use Rattle.bk_mean.specs.declared.ready.ReadyBlock.{ReadyBlock}
 use Rattle.bk_mean.specs.declared.ready.Edge.{Edge}
-use Rattle.bk_mean.specs.Numbering.{place_in}
+use Rattle.bk_mean.specs.Arranged.{IsOrdered}
+use Rattle.bk_mean.specs.Numbering.{found_in, place_in}
 use Rattle.bk_mean.specs.Symbols.{callee_of}
 
 abbrev pub is_on_words : Family → Bool
@@ -28,6 +29,22 @@ pub record IsReadyValue (p : PackageRecord) (f : FuncRecord) (v : ValueRecord) (
 
 abbrev pub AreReadyValues : PackageRecord → FuncRecord → List ValueRecord → List ReadyValue → Type 0
 AreReadyValues p f vs rs = AllZip (IsReadyValue p f) vs rs
+
+-- the place of the call that a value is a result of
+abbrev pub is_result : Origin → Bool
+is_result result = true
+is_result _ = false
+
+abbrev pub call_place : FuncRecord → ValueRecord → Option ℕ
+call_place f v = if is_result (origin_of v.op.family) then option_and_then (found_in f) (slice_get v.args 0) else None
+
+-- the results of the call at a place: which result or word each is, and the place of its number
+abbrev pub results_at : FuncRecord → ℕ → List ValueRecord → List (ℕ × ℕ)
+results_at f k vs = map (λ v. (natural v.int, place_in f v.id)) (filter (λ v. is_at (call_place f v) k) vs)
+
+-- for each value, by places, what is kept of its results
+pub record KeepsResults (f : FuncRecord) (vs : List ValueRecord) (kept : List (List (ℕ × ℕ))) : Type 0 where
+  pub each : (k : ℕ) → k < room f → get_or kept k [] ≡ results_at f k vs
 
 -- the phis among values, by their places, where the first has the place n
 abbrev pub phis_from : ℕ → List ValueRecord → List ℕ
@@ -48,16 +65,23 @@ pub record IsReadyEdge (f : FuncRecord) (b : BlockRecord) (index : ℕ) (e : Edg
   pub block : e.block ≡ position (λ c. c.id == slice_index b.succs index) f.blocks
   pub place : e.place ≡ edge_place b index (block_of f (slice_index b.succs index))
 
--- a block, where so many values stand in the blocks before it
+-- a block of the function stands where so many values stand in the blocks before it
+abbrev pub count_values : List BlockRecord → ℕ
+count_values bs = length (flat_map (λ b. b.values) bs)
+
+pub record StandsAt (f : FuncRecord) (count : ℕ) (b : BlockRecord) : Type 0 where
+  pub index : ℕ
+  pub block : slice_get f.blocks index ≡ Some b
+  pub count_is : count ≡ count_values (take index f.blocks)
+
+-- what is known of a block there
 pub record IsReadyBlock (f : FuncRecord) (count : ℕ) (b : BlockRecord) (r : ReadyBlock) : Type 0 where
   pub first : r.first ≡ count
+  pub order : IsOrdered f b r.order.items
   pub phis : r.phis.items ≡ phis_from 0 b.values
   pub control : r.control ≡ control_place f b.control
   pub edge : IsReadyEdge f b 0 r.edge
   pub other : IsReadyEdge f b 1 r.other
-
-abbrev pub count_values : List BlockRecord → ℕ
-count_values bs = length (flat_map (λ b. b.values) bs)
 
 -- the first n blocks of the function
 pub record AreReadyBlocks (f : FuncRecord) (bs : List BlockRecord) (n : ℕ) (rs : List ReadyBlock) : Type 0 where
@@ -67,4 +91,5 @@ pub record AreReadyBlocks (f : FuncRecord) (bs : List BlockRecord) (n : ℕ) (rs
 pub record IsReady (p : PackageRecord) (f : FuncRecord) (r : Ready) : Type 0 where
   pub values : AreReadyValues p f (values_of f) r.values.items
   pub kept : length r.kept.items ≡ room f
+  pub results : KeepsResults f (values_of f) (map (λ v. v.items) r.kept.items)
   pub blocks : AreReadyBlocks f f.blocks (length f.blocks) r.blocks.items

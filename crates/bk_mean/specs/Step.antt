@@ -11,7 +11,7 @@ use Rattle.bk_ops.specs.declared.types.Ty.{Ty}
 use Rattle.bk_func.specs.declared.parts.Aux.{Aux}
 use Rattle.bk_func.specs.declared.parts.Aux.TheVariants as beside
 use Rattle.bk_func.specs.Records.{ValueRecord, FuncRecord}
-use Rattle.bk_func.specs.Numbers.{Program, Env, Origin, phi, result, loaded, checked, same, computed, natural, load_size, number_by, state_of, address_of}
+use Rattle.bk_func.specs.Numbers.{Program, Env, Origin, phi, result, loaded, checked, same, computed, natural, load_size, state_of}
 use Rattle.bk_func.specs.Effects as fx
 use Rattle.bk_func.specs.Meaning.{Outcome, trapped, wild, World, Run, gives, stops, Activation, store_size}
 use Rattle.bk_mean.specs.declared.step.After.{After}
@@ -111,3 +111,8 @@ abbrev pub IsCalling : fx.Effect → Type 0
 IsCalling fx.call = Unit {0}
 IsCalling fx.call_words = Unit {0}
 IsCalling _ = ⊥
+
+-- the value calls no function
+abbrev pub IsNoCall : After → Type 0
+IsNoCall Call = ⊥
+IsNoCall _ = Unit {0}

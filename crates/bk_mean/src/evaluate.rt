@@ -1,8 +1,11 @@
 // The evaluation of one function of a package.
-ghost use Rattle.std.specs.Prelude.{◌≡◌, ℕ, ◌<◌, ◌↔◌, nat_lt, if◌then◌else◌, false, [], length, None, Some, IfOk, IsErrOf, slice_get, slice_index};
+ghost use Rattle.std.specs.Prelude.{◌≡◌, ℕ, ◌<◌, ◌↔◌, false, [], length, None, Some, IfOk, OnOk, IsErrOf, slice_get, slice_index};
 ghost use Rattle.bk_func.specs.Meaning.{meaning};
-ghost use Rattle.bk_mean.specs.Eval.{function_named, is_name, fit_at, program, EntersNone, end_of_none};
+ghost use Rattle.bk_mean.specs.Eval.{function_named, is_name, fit_at, program, EntersNone, AreFormed};
 ghost use Rattle.bk_mean.specs.Seen.{seen_outcome};
+ghost use Rattle.bk_mean.specs.declared.ready.Ready.{Ready as ReadyFunc};
+ghost use Rattle.bk_mean.specs.Running.{NoneReady, held, Calls, MakesReady, Opens, RunsAll, RunsTo, Starts, Takes};
+ghost use Rattle.bk_mean.specs.Symbols.{IsNaming};
 
 use crate::machine::Machine;
 use crate::prepare::prepare;
@@ -10,7 +13,7 @@ use crate::ready::Ready;
 use crate::symbols::{Callee, Symbols};
 use crate::turn::Next;
 use crate::{EvalError, Outcome};
-use bk_func::{Func, Package, fit};
+use bk_func::{Func, Package, Sig, fit};
 use bk_ops::Target;
 use std::alloc::{AllocError, Global};
 
@@ -33,6 +36,7 @@ pub fn eval(
 ) -> Result<(Outcome, Vec<u8>), EvalError>
     ensures no_function { IsErrOf result EvalError.NoFunction ↔ (function_named pkg.now name.now ≡ None) }
     ensures bad_args { IsErrOf result EvalError.BadArgs ↔ (fit_at pkg.now target (function_named pkg.now name.now) args.now ≡ false) }
+    ensures meant { IfOk result (λ r. (i : ℕ) → function_named pkg.now name.now ≡ Some i → AreFormed pkg.now → (seen_outcome r.0, r.1.items) ≡ meaning (program pkg.now target frames.now) i args.now window.now stack bound) }
     ensures none_entered { IfOk result (λ r. (i : ℕ) → function_named pkg.now name.now ≡ Some i → EntersNone bound stack (slice_index frames.now i) → (seen_outcome r.0, r.1.items) ≡ meaning (program pkg.now target frames.now) i args.now window.now stack bound) }
 {
     let Some(place) = place_of(pkg, name) else {
@@ -79,7 +83,9 @@ fn run(
     stack: u64,
     bound: u64,
 ) -> Result<(Outcome, Vec<u8>), AllocError>
-    ensures { IfOk result (λ r. place < length pkg.now.funcs → EntersNone bound stack (slice_index frames.now place) → (seen_outcome r.0 ≡ end_of_none stack (slice_index frames.now place)) × (r.1.items ≡ window.now)) }
+    requires { place < length pkg.now.funcs }
+    ensures meant { IfOk result (λ r. AreFormed pkg.now → (seen_outcome r.0, r.1.items) ≡ meaning (program pkg.now target frames.now) place args.now window.now stack bound) }
+    ensures none_entered { IfOk result (λ r. EntersNone bound stack (slice_index frames.now place) → (seen_outcome r.0, r.1.items) ≡ meaning (program pkg.now target frames.now) place args.now window.now stack bound) }
 {
     let symbols = Symbols::new(alloc, pkg)?;
     let mut readies = none_ready(alloc, pkg.funcs.len())?;
@@ -106,7 +112,10 @@ fn run(
     Ok((outcome, window))
 }
 
-fn none_ready(alloc: Global, count: usize) -> Result<Vec<Option<Ready>>, AllocError> {
+/// A list of so many functions, none of which is ready.
+fn none_ready(alloc: Global, count: usize) -> Result<Vec<Option<Ready>>, AllocError>
+    ensures { IfOk result (λ readies. NoneReady count readies.items) }
+{
     let mut readies = Vec::with_capacity(alloc, count)?;
     for _ in 0..count {
         readies.push(None)?;
@@ -127,17 +136,17 @@ fn enter_all(
     readies: &mut Vec<Option<Ready>>,
     machine: &mut Machine,
 ) -> Result<Outcome, AllocError>
-    ensures { IfOk result (λ o. machine.old.calls.items ≡ [] → place < length pkg.now.funcs → EntersNone bound stack (slice_index frames.now place) → (seen_outcome o ≡ end_of_none stack (slice_index frames.now place)) × (machine.new.window.items ≡ machine.old.window.items)) }
+    requires naming { IsNaming pkg.now symbols.now }
+    requires place { place < length pkg.now.funcs }
+    ensures { IfOk result (λ o. RunsAll machine.old.target pkg.now frames.now place stack bound readies.old.items (held machine.old) (seen_outcome o) machine.new.window.items) }
 {
-    if let Some(trap) = begin(
+    let trap = begin(
         alloc, pkg, frames, place, stack, symbols, readies, machine, false,
-    )? {
-        return Ok(Outcome::Trapped(trap));
+    )?;
+    match trap {
+        Some(trap) => Ok(Outcome::Trapped(trap)),
+        None => enter_blocks(alloc, pkg, frames, stack, bound, symbols, readies, machine),
     }
-    if bound == 0 {
-        return Ok(Outcome::Going);
-    }
-    enter_blocks(alloc, pkg, frames, stack, bound, symbols, readies, machine)
 }
 
 /// Enters one block after the other.
@@ -151,7 +160,10 @@ fn enter_blocks(
     symbols: &Symbols,
     readies: &mut Vec<Option<Ready>>,
     machine: &mut Machine,
-) -> Result<Outcome, AllocError> {
+) -> Result<Outcome, AllocError>
+    requires { IsNaming pkg.now symbols.now }
+    ensures { IfOk result (λ o. RunsTo machine.old.target pkg.now frames.now stack bound readies.old.items (held machine.old) (seen_outcome o) machine.new.window.items) }
+{
     for _ in 0..bound {
         match machine.advance(pkg, readies)? {
             Next::Enter => {}
@@ -183,7 +195,11 @@ fn begin_named(
     readies: &mut Vec<Option<Ready>>,
     machine: &mut Machine,
     on_words: bool,
-) -> Result<Option<u8>, AllocError> {
+) -> Result<Option<u8>, AllocError>
+    requires { IsNaming pkg.now symbols.now }
+    ensures target { machine.new.target ≡ machine.old.target }
+    ensures calls { IfOk result (λ trap. Calls machine.old.target pkg.now frames.now stack callee on_words readies.old.items readies.new.items (held machine.old) (held machine.new) trap) }
+{
     match callee {
         Callee::PanicDivide => Ok(Some(3)),
         Callee::PanicShift => Ok(Some(4)),
@@ -207,8 +223,9 @@ fn begin(
     machine: &mut Machine,
     on_words: bool,
 ) -> Result<Option<u8>, AllocError>
-    ensures window { machine.new.window.items ≡ machine.old.window.items }
-    ensures first { IfOk result (λ trap. machine.old.calls.items ≡ [] → place < length pkg.now.funcs → trap ≡ (if nat_lt stack (slice_index frames.now place) then Some 5 else None)) }
+    requires { IsNaming pkg.now symbols.now }
+    ensures target { machine.new.target ≡ machine.old.target }
+    ensures starts { IfOk result (λ trap. place < length pkg.now.funcs → Starts machine.old.target pkg.now frames.now place stack on_words readies.old.items readies.new.items (held machine.old) (held machine.new) trap) }
 {
     let Some(func) = pkg.funcs.get(place) else {
         return Ok(Some(6));
@@ -218,15 +235,56 @@ fn begin(
     if have < frame {
         return Ok(Some(5));
     }
-    let left = have - frame;
     make_ready(alloc, symbols, func, readies, place)?;
-    if on_words {
-        machine.take_words(&func.sig)?;
-    }
-    if let Some(Some(ready)) = readies.get(place) {
-        machine.begin(place, &func.sig, ready, left)?;
-    }
+    open(place, func, readies, have - frame, on_words, machine)?;
     Ok(None)
+}
+
+/// Begins a call of the function at a place, if it is ready, with so many bytes of stack left to it.
+fn open(
+    place: usize,
+    func: &Func,
+    readies: &[Option<Ready>],
+    stack: u64,
+    on_words: bool,
+    machine: &mut Machine,
+) -> Result<(), AllocError>
+    ensures target { machine.new.target ≡ machine.old.target }
+    ensures opens { OnOk result ((r : ReadyFunc) → slice_get readies.now place ≡ Some (Some r) → Opens machine.old.target place func.now.sig r stack on_words (held machine.old) (held machine.new)) }
+{
+    let Some(Some(ready)) = readies.get(place) else {
+        return Ok(());
+    };
+    open_ready(place, &func.sig, ready, stack, on_words, machine)
+}
+
+/// Begins a call of a function that is ready.
+fn open_ready(
+    place: usize,
+    sig: &Sig,
+    ready: &Ready,
+    stack: u64,
+    on_words: bool,
+    machine: &mut Machine,
+) -> Result<(), AllocError>
+    ensures target { machine.new.target ≡ machine.old.target }
+    ensures opens { OnOk result (Opens machine.old.target place sig.now ready.now stack on_words (held machine.old) (held machine.new)) }
+{
+    take(machine, on_words, sig)?;
+    machine.begin(place, sig, ready, stack)?;
+    Ok(())
+}
+
+/// Takes the words that were written for a call at hand, if the call is on words.
+fn take(machine: &mut Machine, on_words: bool, sig: &Sig) -> Result<(), AllocError>
+    ensures target { machine.new.target ≡ machine.old.target }
+    ensures took { OnOk result (Takes on_words machine.old.target sig.now (held machine.old) (held machine.new)) }
+{
+    if !on_words {
+        return Ok(());
+    }
+    machine.take_words(sig)?;
+    Ok(())
 }
 
 /// The bytes of the frame of the function at a place.
@@ -246,7 +304,9 @@ fn make_ready(
     func: &Func,
     readies: &mut Vec<Option<Ready>>,
     place: usize,
-) -> Result<(), AllocError> {
+) -> Result<(), AllocError>
+    ensures { OnOk result (MakesReady symbols.now func.now place readies.old.items readies.new.items) }
+{
     if place < readies.len() && readies[place].is_none() {
         let ready = prepare(alloc, symbols, func)?;
         readies[place] = Some(ready);

@@ -15,8 +15,6 @@ mod role;
 mod states;
 mod step;
 mod symbols;
-#[cfg(test)]
-mod tests;
 mod turn;
 mod words;
 

@@ -1,13 +1,14 @@
 // Runs: calls that are under way, one upon the other.
-ghost use Rattle.std.specs.Prelude.{◌≡◌, []};
+ghost use Rattle.std.specs.Prelude.{◌≡◌, ◌+◌, ◌≤◌, ◌++◌, ◌↔◌, [], IfOk, OnOk, IsTrue, None, length, drop, slice_index, option_map};
+ghost use Rattle.bk_mean.specs.Running.{held, keep_all, given_back, stack_left, top, Advanced, Begun, GivesBack, GivesTo, Ended, Moved, MovesOn, TakesWords};
 
 use crate::fit::push_fitted;
-use crate::ready::{Ready, ReadyValue};
+use crate::ready::Ready;
 use crate::step::CallWords;
 use crate::symbols::Callee;
-use crate::turn::{Next, Scene, go_on};
+use crate::turn::{Next, Scene, go_on, put};
 use crate::words::{Words, push_words, spell};
-use bk_func::{Package, Sig};
+use bk_func::{Func, Package, Sig};
 use bk_ops::{Target, Ty};
 use std::alloc::{AllocError, Global};
 
@@ -43,7 +44,7 @@ pub(crate) struct Machine {
 impl Machine {
     /// The stack that is left to a call, and at the start the given one.
     pub(crate) fn stack(&self, start: u64) -> u64
-        ensures { self.now.calls.items ≡ [] → result ≡ start }
+        ensures { result ≡ stack_left (top self.now.calls.items) start }
     {
         match self.calls.last() {
             Some(call) => call.stack,
@@ -53,7 +54,8 @@ impl Machine {
 
     /// Takes the words that were written for a call at hand, as the numbers that they spell.
     pub(crate) fn take_words(&mut self, sig: &Sig) -> Result<(), AllocError>
-        ensures { self.new.window ≡ self.old.window }
+        ensures target { self.new.target ≡ self.old.target }
+        ensures took { OnOk result (TakesWords self.old.target sig.now (held self.old) (held self.new)) }
     {
         self.hand.clear();
         if let Some(call) = self.calls.last_mut() {
@@ -71,10 +73,16 @@ impl Machine {
         ready: &Ready,
         stack: u64,
     ) -> Result<(), AllocError>
-        ensures { self.new.window ≡ self.old.window }
+        ensures target { self.new.target ≡ self.old.target }
+        ensures begun { OnOk result (Begun self.old.target func sig.now (length ready.now.values.items) stack (held self.old) (held self.new)) }
     {
         let base = self.numbers.len();
-        let end = base.wrapping_add(ready.values.len()).wrapping_add(1);
+        let end = base
+            .checked_add(ready.values.len())
+            .and_then(|end| end.checked_add(1));
+        let Some(end) = end else {
+            return Err(AllocError);
+        };
         self.numbers.resize(end, 0)?;
         push_fitted(&mut self.numbers, self.target, &sig.args, &self.hand)?;
         let words = CallWords {
@@ -98,40 +106,111 @@ impl Machine {
         &mut self,
         pkg: &Package,
         readies: &[Option<Ready>],
-    ) -> Result<Next, AllocError> {
+    ) -> Result<Next, AllocError>
+        ensures target { self.new.target ≡ self.old.target }
+        ensures advanced { IfOk result (λ next. Advanced self.old.target pkg.now readies.now (held self.old) (held self.new) next) }
+    {
         while let Some(mut call) = self.calls.pop() {
-            let (Some(func), Some(Some(ready))) = (pkg.funcs.get(call.func), readies.get(call.func))
-            else {
-                return Ok(Next::Trap(6));
-            };
-            if call.base > self.numbers.len() {
-                return Ok(Next::Trap(6));
-            }
-            let scene = Scene {
-                target: self.target,
-                func,
-                ready,
-            };
-            let numbers = &mut self.numbers[call.base..];
-            let next = go_on(scene, &mut call, numbers, &mut self.window, &mut self.hand)?;
-            if let Next::Return = next {
-                give_back(
-                    self.alloc,
-                    self.target,
-                    readies,
-                    self.calls.last(),
-                    &func.sig,
-                    ready.values.len(),
-                    call.base,
-                    &mut self.numbers,
-                    &mut self.hand,
-                )?;
-            } else {
+            let next = go(
+                self.target,
+                pkg,
+                readies,
+                &mut call,
+                &mut self.window,
+                &mut self.hand,
+                &mut self.numbers,
+            )?;
+            if !is_return(next) {
                 self.calls.push(call)?;
                 return Ok(next);
             }
+            self.end(&call, pkg, readies)?;
         }
         Ok(Next::Return)
+    }
+
+    /// Ends a call, the results of which are at hand.
+    fn end(
+        &mut self,
+        call: &Activation,
+        pkg: &Package,
+        readies: &[Option<Ready>],
+    ) -> Result<(), AllocError>
+        ensures ended { OnOk result (Ended self.old.target pkg.now readies.now (top self.old.calls.items) call.now (held self.old) (held self.new)) }
+        ensures window { self.new.window ≡ self.old.window }
+        ensures calls { self.new.calls ≡ self.old.calls }
+        ensures target { self.new.target ≡ self.old.target }
+    {
+        let (Some(func), Some(Some(ready))) = (pkg.funcs.get(call.func), readies.get(call.func))
+        else {
+            return Ok(());
+        };
+        give_back(
+            self.alloc,
+            self.target,
+            readies,
+            self.calls.last(),
+            &func.sig,
+            ready.values.len(),
+            call.base,
+            &mut self.numbers,
+            &mut self.hand,
+        )
+    }
+}
+
+/// Goes on with a call until its block is left.
+#[allow(clippy::too_many_arguments)]
+fn go(
+    target: Target,
+    pkg: &Package,
+    readies: &[Option<Ready>],
+    call: &mut Activation,
+    window: &mut Vec<u8>,
+    hand: &mut Vec<u64>,
+    numbers: &mut Vec<u64>,
+) -> Result<Next, AllocError>
+    ensures { IfOk result (λ next. Moved target pkg.now readies.now call.old call.new (record { window = window.old.items; hand = hand.old.items; numbers = numbers.old.items }) (record { window = window.new.items; hand = hand.new.items; numbers = numbers.new.items }) next) }
+{
+    let (Some(func), Some(Some(ready))) = (pkg.funcs.get(call.func), readies.get(call.func)) else {
+        return Ok(Next::Trap(6));
+    };
+    if call.base > numbers.len() {
+        return Ok(Next::Trap(6));
+    }
+    let next = go_in(target, func, ready, call, window, hand, numbers)?;
+    Ok(next)
+}
+
+/// Goes on with a call of a function that is ready.
+fn go_in(
+    target: Target,
+    func: &Func,
+    ready: &Ready,
+    call: &mut Activation,
+    window: &mut Vec<u8>,
+    hand: &mut Vec<u64>,
+    numbers: &mut Vec<u64>,
+) -> Result<Next, AllocError>
+    requires { call.old.base ≤ length numbers.old.items }
+    ensures { IfOk result (λ next. MovesOn target func.now ready.now call.old call.new (record { window = window.old.items; hand = hand.old.items; numbers = numbers.old.items }) (record { window = window.new.items; hand = hand.new.items; numbers = numbers.new.items }) next) }
+{
+    let scene = Scene {
+        target,
+        func,
+        ready,
+    };
+    let (_, own) = numbers.split_at_mut(call.base);
+    let next = go_on(scene, call, own, window, hand)?;
+    Ok(next)
+}
+
+fn is_return(next: Next) -> bool
+    ensures { IsTrue result ↔ (next ≡ Next.Return) }
+{
+    match next {
+        Next::Return => true,
+        _ => false,
     }
 }
 
@@ -148,55 +227,100 @@ fn give_back(
     base: usize,
     numbers: &mut Vec<u64>,
     hand: &mut Vec<u64>,
-) -> Result<(), AllocError> {
+) -> Result<(), AllocError>
+    ensures { OnOk result (GivesBack target readies.now (option_map (λ c. c.now) caller.entry) sig.now values base numbers.old.items hand.old.items numbers.new.items hand.new.items) }
+{
     let mut results = Vec::with_capacity(alloc, hand.len())?;
     push_fitted(&mut results, target, &sig.results, hand)?;
     hand.clear();
-    let Some(caller) = caller else {
-        hand.extend_from_slice(&results)?;
-        return Ok(());
-    };
-    let Some((call, kept)) = caller_value(readies, caller) else {
-        return Ok(());
-    };
-    if call.on_words {
-        let start = base.wrapping_add(values).wrapping_add(1).min(numbers.len());
-        push_words(hand, target, &sig.args, &numbers[start..])?;
-        push_words(hand, target, &sig.results, &results)?;
-    } else {
-        hand.extend_from_slice(&results)?;
+    match caller {
+        None => hand.extend_from_slice(&results),
+        Some(caller) => give_to(
+            target, readies, caller, sig, values, base, &results, numbers, hand,
+        ),
     }
+}
+
+/// Gives the results of a call to the values of its caller that keep them; the list of numbers at hand
+/// begins empty.
+#[allow(clippy::too_many_arguments)]
+fn give_to(
+    target: Target,
+    readies: &[Option<Ready>],
+    caller: &Activation,
+    sig: &Sig,
+    values: usize,
+    base: usize,
+    results: &[u64],
+    numbers: &mut Vec<u64>,
+    hand: &mut Vec<u64>,
+) -> Result<(), AllocError>
+    requires { hand.old.items ≡ [] }
+    ensures { OnOk result (GivesTo target readies.now caller.now sig.now values base results.now numbers.old.items numbers.new.items) }
+{
+    let Some(Some(ready)) = readies.get(caller.func) else {
+        return Ok(());
+    };
+    let (Some(call), Some(kept)) = (
+        ready.values.get(caller.called_by),
+        ready.kept.get(caller.called_by),
+    ) else {
+        return Ok(());
+    };
+    take_given(
+        hand,
+        call.on_words,
+        target,
+        sig,
+        arguments(numbers, base, values),
+        results,
+    )?;
     numbers.truncate(base);
     keep(numbers, caller.base, kept, hand);
     Ok(())
 }
 
-/// The value that a caller called a function by, and what is kept of the results.
-fn caller_value<'a>(
-    readies: &'a [Option<Ready>],
-    caller: &Activation,
-) -> Option<(&'a ReadyValue, &'a [(u64, usize)])> {
-    match readies.get(caller.func) {
-        Some(Some(ready)) => {
-            let value = ready.values.get(caller.called_by)?;
-            let kept = ready.kept.get(caller.called_by)?;
-            Some((value, kept.as_slice()))
-        }
-        _ => None,
+/// The arguments of a call whose numbers begin at a base with those of so many values and one more.
+fn arguments(numbers: &[u64], base: usize, values: usize) -> &[u64]
+    ensures { result.now ≡ drop (base + values + 1) numbers.now }
+{
+    match base.checked_add(values) {
+        Some(end) if end < numbers.len() => &numbers[end + 1..],
+        _ => &numbers[numbers.len()..],
+    }
+}
+
+/// Appends what a call gives back: its results, or the words of its arguments and results.
+fn take_given(
+    list: &mut Vec<u64>,
+    on_words: bool,
+    target: Target,
+    sig: &Sig,
+    args: &[u64],
+    results: &[u64],
+) -> Result<(), AllocError>
+    ensures { OnOk result (list.new.items ≡ list.old.items ++ given_back on_words target sig.now args.now results.now) }
+{
+    if on_words {
+        push_words(list, target, &sig.args, args)?;
+        push_words(list, target, &sig.results, results)
+    } else {
+        list.extend_from_slice(results)
     }
 }
 
 /// Puts what is kept of a call's results or words in its places, from the first on.
-fn keep(numbers: &mut [u64], first: usize, kept: &[(u64, usize)], given: &[u64]) {
+fn keep(numbers: &mut [u64], first: usize, kept: &[(u64, usize)], given: &[u64])
+    ensures { numbers.new ≡ keep_all first kept.now given.now numbers.old }
+{
     for (index, place) in kept {
-        let at = first.wrapping_add(*place);
-        if at < numbers.len() {
-            numbers[at] = number_at(given, *index);
-        }
+        put(numbers, first, *place, number_at(given, *index));
     }
 }
 
-fn number_at(numbers: &[u64], index: u64) -> u64 {
+fn number_at(numbers: &[u64], index: u64) -> u64
+    ensures { result ≡ slice_index numbers.now index }
+{
     if index < numbers.len() as u64 {
         numbers[index as usize]
     } else {

@@ -9,8 +9,8 @@ use std::collections::BTreeMap;
 /// The place of each number in a list; of equal ones that of the first.
 pub(crate) fn first_places(
     alloc: Global,
-    numbers: &[u32],
-) -> Result<BTreeMap<u32, usize>, AllocError>
+    numbers: &[usize],
+) -> Result<BTreeMap<usize, usize>, AllocError>
     ensures { IfOk result (λ places. (n : ℕ) → place_at nat_cmp places n ≡ position (λ x. x == n) numbers.now) }
 {
     let mut places = BTreeMap::new(alloc);

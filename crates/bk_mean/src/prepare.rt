@@ -1,13 +1,15 @@
 // Functions made ready to run.
-ghost use Rattle.std.specs.Prelude.{◌≡◌, ℕ, ◌++◌, ◌==◌, IfOk, OnOk, List, length, map, flat_map, take, count_by, position, slice_index};
+ghost use Rattle.std.specs.Prelude.{◌≡◌, ℕ, ◌+◌, ◌++◌, ◌^◌, ◌<◌, ◌≤◌, ◌==◌, if◌then◌else◌, IfOk, OnOk, List, [], ◌∷◌, get_or, length, map, flat_map, take, count_by, position, slice_index};
+ghost use Rattle.std.specs.List.{All, filter_map};
 ghost use Rattle.bk_func.specs.Records.{ValueRecord, FuncRecord, PackageRecord};
 ghost use Rattle.bk_func.specs.Edits.{nth_place, block_of};
-ghost use Rattle.bk_func.specs.Numbers.{room, origin_of as meant_origin};
+ghost use Rattle.bk_func.specs.Numbers.{room, natural as meant_natural, origin_of as meant_origin};
 ghost use Rattle.bk_func.specs.Effects.{is_phi as meant_phi};
 ghost use Rattle.bk_func.specs.Meaning.{without_memory as meant_without};
 ghost use Rattle.bk_mean.specs.Numbering.{IsNumbering, place_in};
+ghost use Rattle.bk_mean.specs.Memories.{taken_place, taken_places, all_taken, IsArranged};
 ghost use Rattle.bk_mean.specs.Symbols.{IsNaming};
-ghost use Rattle.bk_mean.specs.Ready.{IsReady, IsReadyValue, AreReadyValues, IsReadyBlock, AreReadyBlocks, IsReadyEdge, phis_from, control_place, nth_in};
+ghost use Rattle.bk_mean.specs.Ready.{IsReady, IsReadyValue, AreReadyValues, IsReadyBlock, AreReadyBlocks, IsReadyEdge, StandsAt, KeepsResults, call_place, phis_from, control_place, nth_in};
 
 use crate::arrange::arrange;
 use crate::numbering::Numbering;
@@ -101,18 +103,24 @@ fn ready_blocks(
     numbering: &Numbering,
     func: &Func,
 ) -> Result<Vec<ReadyBlock>, AllocError>
-    ensures { IfOk result (λ blocks. IsNumbering func.now numbering.now → AreReadyBlocks func.now func.now.blocks (length func.now.blocks) blocks.items) }
+    requires { IsNumbering func.now numbering.now }
+    ensures { IfOk result (λ blocks. AreReadyBlocks func.now func.now.blocks (length func.now.blocks) blocks.items) }
 {
     let mut list = Vec::with_capacity(alloc, func.blocks.len())?;
     let mut first = 0usize;
     for block in &func.blocks {
         list.push(ready_block(alloc, numbering, func, block, first)?)?;
-        let Some(next) = first.checked_add(block.values.len()) else {
-            return Err(AllocError);
-        };
-        first = next;
+        first = end(block, first);
     }
     Ok(list)
+}
+
+/// The place after the last value of a block.
+fn end(block: &Block, first: usize) -> usize
+    requires { first + length block.now.values < 2 ^ 63 }
+    ensures { result ≡ first + length block.now.values }
+{
+    first + block.values.len()
 }
 
 fn ready_block(
@@ -122,7 +130,10 @@ fn ready_block(
     block: &Block,
     first: usize,
 ) -> Result<ReadyBlock, AllocError>
-    ensures { IfOk result (λ ready. IsNumbering func.now numbering.now → IsReadyBlock func.now first block.now ready) }
+    requires numbering { IsNumbering func.now numbering.now }
+    requires stands { StandsAt func.now first block.now }
+    requires within { first + length block.now.values ≤ room func.now }
+    ensures { IfOk result (λ ready. IsReadyBlock func.now first block.now ready) }
 {
     let order = order(alloc, numbering, first, &block.values)?;
     let phis = phis(alloc, &block.values)?;
@@ -154,28 +165,47 @@ fn order(
     numbering: &Numbering,
     first: usize,
     values: &[Value],
-) -> Result<Vec<usize>, AllocError> {
+) -> Result<Vec<usize>, AllocError>
+    requires { first + length values.now < 2 ^ 63 }
+    ensures within { IfOk result (λ order. All (λ k. k < length values.now) order.items) }
+    ensures arranged { IfOk result (λ order. IsArranged numbering.now first values.now order.items) }
+{
     let due = due(alloc, numbering, first, values)?;
     let takes = takes(alloc, numbering, first, values)?;
     arrange(alloc, &due, &takes)
 }
 
-/// For each value the places in the block of those values of the block that it takes; a phi takes none.
+/// For each value the places in the block of those values of the block that it takes.
 fn takes(
     alloc: Global,
     numbering: &Numbering,
     first: usize,
     values: &[Value],
-) -> Result<Vec<SmallVec<usize, 4>>, AllocError> {
+) -> Result<Vec<SmallVec<usize, 4>>, AllocError>
+    ensures { IfOk result (λ takes. map (λ t. t.items) takes.items ≡ all_taken numbering.now first values.now) }
+{
     let mut takes = Vec::with_capacity(alloc, values.len())?;
     for value in values {
-        let mut taken = SmallVec::new(alloc);
-        if value.op.family != Family::Phi {
-            add_taken(&mut taken, numbering, first, values, value.args.as_slice())?;
-        }
-        takes.push(taken)?;
+        takes.push(taken_by(alloc, numbering, first, values, value)?)?;
     }
     Ok(takes)
+}
+
+/// What a value takes; a phi takes nothing.
+fn taken_by(
+    alloc: Global,
+    numbering: &Numbering,
+    first: usize,
+    values: &[Value],
+    value: &Value,
+) -> Result<SmallVec<usize, 4>, AllocError>
+    ensures { IfOk result (λ taken. taken.items ≡ taken_places numbering.now first values.now value.now) }
+{
+    let mut taken = SmallVec::new(alloc);
+    if !is_phi(value) {
+        add_taken(&mut taken, numbering, first, values, value.args.as_slice())?;
+    }
+    Ok(taken)
 }
 
 fn add_taken(
@@ -184,15 +214,22 @@ fn add_taken(
     first: usize,
     values: &[Value],
     args: &[u32],
-) -> Result<(), AllocError> {
+) -> Result<(), AllocError>
+    ensures { OnOk result (taken.new.items ≡ taken.old.items ++ filter_map (taken_place numbering.now first values.now) args.now) }
+{
     for arg in args {
-        if let Some(place) = numbering.find(*arg) {
-            if let Some(local) = local(first, values, place) {
-                taken.push(local)?;
-            }
+        if let Some(local) = taken_at(numbering, first, values, *arg) {
+            taken.push(local)?;
         }
     }
     Ok(())
+}
+
+/// The place in the block of the value with this number, if it stands there.
+fn taken_at(numbering: &Numbering, first: usize, values: &[Value], arg: u32) -> Option<usize>
+    ensures { result ≡ taken_place numbering.now first values.now arg }
+{
+    local(first, values, numbering.find(arg)?)
 }
 
 fn phis(alloc: Global, values: &[Value]) -> Result<Vec<usize>, AllocError>
@@ -292,10 +329,10 @@ fn kept_results(
     numbering: &Numbering,
     blocks: &[Block],
 ) -> Result<Vec<Vec<(u64, usize)>>, AllocError>
-    ensures { IfOk result (λ kept. (f : FuncRecord) → IsNumbering f numbering.now → length kept.items ≡ room f) }
+    ensures length { IfOk result (λ kept. length kept.items ≡ length numbering.now.roots.items) }
+    ensures results { IfOk result (λ kept. (f : FuncRecord) → IsNumbering f numbering.now → KeepsResults f (flat_map (λ b. b.values) blocks.now) (map (λ v. v.items) kept.items)) }
 {
-    let count = numbering.count();
-    let mut kept = none_kept(alloc, count)?;
+    let mut kept = none_kept(alloc, numbering.count())?;
     for block in blocks {
         keep_results(&mut kept, numbering, &block.values)?;
     }
@@ -303,7 +340,8 @@ fn kept_results(
 }
 
 fn none_kept(alloc: Global, count: usize) -> Result<Vec<Vec<(u64, usize)>>, AllocError>
-    ensures { IfOk result (λ kept. length kept.items ≡ count) }
+    ensures length { IfOk result (λ kept. length kept.items ≡ count) }
+    ensures none { IfOk result (λ kept. (k : ℕ) → get_or (map (λ v. v.items) kept.items) k [] ≡ []) }
 {
     let mut kept = Vec::with_capacity(alloc, count)?;
     for _ in 0..count {
@@ -317,17 +355,33 @@ fn keep_results(
     kept: &mut [Vec<(u64, usize)>],
     numbering: &Numbering,
     values: &[Value],
-) -> Result<(), AllocError> {
+) -> Result<(), AllocError>
+    ensures length { length kept.new ≡ length kept.old }
+    ensures results { OnOk result ((f : FuncRecord) → IsNumbering f numbering.now → (before : List ValueRecord) → length kept.old ≡ room f → KeepsResults f before (map (λ v. v.items) kept.old) → KeepsResults f (before ++ values.now) (map (λ v. v.items) kept.new)) }
+{
     for value in values {
-        if origin_of(value.op.family) == Origin::Result {
-            if let Some(call) = value.args.as_slice().first() {
-                if let Some(at) = numbering.find(*call) {
-                    keep(kept, at, natural(value.int), numbering.place(value.id))?;
-                }
-            }
+        if let Some(call) = call_of(numbering, value) {
+            keep(kept, call, index_of(value), numbering.place(value.id))?;
         }
     }
     Ok(())
+}
+
+/// Which result or word of its call the value is.
+fn index_of(value: &Value) -> u64
+    ensures { result ≡ meant_natural value.now.int }
+{
+    natural(value.int)
+}
+
+/// The place of the call that the value is a result of.
+fn call_of(numbering: &Numbering, value: &Value) -> Option<usize>
+    ensures { (f : FuncRecord) → IsNumbering f numbering.now → result ≡ call_place f value.now }
+{
+    match origin_of(value.op.family) {
+        Origin::Result => numbering.find(value.args.as_slice().first().copied()?),
+        _ => None,
+    }
 }
 
 fn keep(
@@ -335,7 +389,10 @@ fn keep(
     call: usize,
     index: u64,
     place: usize,
-) -> Result<(), AllocError> {
+) -> Result<(), AllocError>
+    ensures length { length kept.new ≡ length kept.old }
+    ensures kept { OnOk result ((k : ℕ) → k < length kept.old → get_or (map (λ v. v.items) kept.new) k [] ≡ get_or (map (λ v. v.items) kept.old) k [] ++ (if call == k then (index, place) ∷ [] else [])) }
+{
     if call < kept.len() {
         kept[call].push((index, place))?;
     }

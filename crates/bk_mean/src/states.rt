@@ -1,10 +1,25 @@
 // The states of memory in a block, and when each of its values is due.
+ghost use Rattle.std.specs.Prelude.{◌≡◌, ℕ, ◌+◌, ◌^◌, ◌<◌, ◌==◌, IfOk, IfSome, Some, None, if◌then◌else◌, length, map, position, slice_get, option_map, option_and_then};
+ghost use Rattle.std.specs.Ordering.{nat_cmp};
+ghost use Rattle.std.specs.BTreeMap.{get as place_at};
+ghost use Rattle.std.specs.List.{last_or};
+ghost use Rattle.bk_ops.specs.Table.{info_of};
+ghost use Rattle.bk_func.specs.Records.{ValueRecord};
+ghost use Rattle.bk_func.specs.Numbers.{origin_of as meant_origin, memory_arg as meant_arg};
+ghost use Rattle.bk_func.specs.Effects.{has_effect as meant_effect};
+ghost use Rattle.bk_mean.specs.Numbering.{local_in};
+ghost use Rattle.bk_mean.specs.Arranged.{class_of, due_by};
+ghost use Rattle.bk_mean.specs.Dues.{seen_at, due_in};
+ghost use Rattle.bk_mean.specs.Memories.{state_place, acting_place, is_given as meant_given, beginning_of, followed_by, walked, states_of, place_due};
+
 use crate::arrange::Due;
 use crate::numbering::Numbering;
+use crate::places::first_places;
 use crate::role::{Origin, effect_of, origin_of};
 use bk_func::Value;
-use bk_ops::{Family, Ty, op_info};
+use bk_ops::op_info;
 use std::alloc::{AllocError, Global};
+use std::collections::BTreeMap;
 
 /// The level of what may be done at any time.
 pub(crate) const ANYTIME: usize = usize::MAX;
@@ -16,127 +31,6 @@ const LOADS: u32 = 1;
 
 const NEXT: u32 = 2;
 
-/// The place in a block of the value at a place of the function.
-pub(crate) fn local(first: usize, values: &[Value], place: usize) -> Option<usize> {
-    let local = place.checked_sub(first)?;
-    if local < values.len() {
-        Some(local)
-    } else {
-        None
-    }
-}
-
-/// The argument that names a state of memory: of a result its call, of an op with memory the last.
-fn memory_arg(value: &Value) -> Option<u32> {
-    let args = value.args.as_slice();
-    if origin_of(value.op.family) == Origin::Result {
-        args.first().copied()
-    } else if op_info(value.op).memory {
-        args.last().copied()
-    } else {
-        None
-    }
-}
-
-/// The class of what the value does at a state.
-fn class(value: &Value) -> Option<u32> {
-    match origin_of(value.op.family) {
-        Origin::Checked => Some(CHECKS),
-        Origin::Loaded => Some(LOADS),
-        _ if effect_of(value.op.family, value.ty).is_some() => Some(NEXT),
-        _ => None,
-    }
-}
-
-/// The place of the state at which the value does something.
-fn state_of(numbering: &Numbering, value: &Value) -> Option<usize> {
-    let _class = class(value)?;
-    numbering.memory(memory_arg(value)?)
-}
-
-/// The state that a block begins with, by its place in the function: its memory phi or the first state
-/// of all, else the first state of another block that one of its values names.
-fn beginning(numbering: &Numbering, first: usize, values: &[Value]) -> Option<usize> {
-    for (local, value) in values.iter().enumerate() {
-        if is_first(value) {
-            return Some(first.wrapping_add(local));
-        }
-    }
-    for value in values {
-        if let Some(state) = state_of(numbering, value) {
-            if local(first, values, state).is_none() {
-                return Some(state);
-            }
-        }
-    }
-    None
-}
-
-fn is_first(value: &Value) -> bool {
-    match value.op.family {
-        Family::Phi => value.ty == Ty::Mem,
-        Family::InitMem => true,
-        _ => false,
-    }
-}
-
-/// For each value of the block the first memory value that names it, and last that for the state that
-/// the block begins with.
-fn next_values(
-    alloc: Global,
-    numbering: &Numbering,
-    first: usize,
-    values: &[Value],
-    beginning: Option<usize>,
-) -> Result<Vec<Option<usize>>, AllocError> {
-    let mut next = vec![in alloc; None; values.len().wrapping_add(1)]?;
-    for (place, value) in values.iter().enumerate() {
-        if class(value) == Some(NEXT) {
-            if let Some(slot) = slot(first, values, beginning, state_of(numbering, value)) {
-                put_first(&mut next, slot, place);
-            }
-        }
-    }
-    Ok(next)
-}
-
-/// The place of a state among those of a block: that of its value, or the last for the state that the
-/// block begins with.
-fn slot(
-    first: usize,
-    values: &[Value],
-    beginning: Option<usize>,
-    state: Option<usize>,
-) -> Option<usize> {
-    let state = state?;
-    if beginning == Some(state) {
-        return Some(values.len());
-    }
-    local(first, values, state)
-}
-
-fn put_first(list: &mut [Option<usize>], at: usize, place: usize) {
-    if let Some(known) = list.get_mut(at) {
-        if known.is_none() {
-            *known = Some(place);
-        }
-    }
-}
-
-/// For each state of the block how many come before it, each naming the one before.
-fn levels(alloc: Global, next: &[Option<usize>]) -> Result<Vec<Option<usize>>, AllocError> {
-    let mut levels = vec![in alloc; None; next.len()]?;
-    let mut state = next.len().wrapping_sub(1);
-    for level in 0..next.len() {
-        put_first(&mut levels, state, level);
-        match next.get(state).copied() {
-            Some(Some(place)) => state = place,
-            _ => break,
-        }
-    }
-    Ok(levels)
-}
-
 /// When each value of the block is due: at its state the checks as listed, then the loads as listed,
 /// then the next memory value; None where its state is none of the block's. Other values are due at any
 /// time.
@@ -145,23 +39,201 @@ pub(crate) fn due(
     numbering: &Numbering,
     first: usize,
     values: &[Value],
-) -> Result<Vec<Option<Due>>, AllocError> {
-    let beginning = beginning(numbering, first, values);
-    let next = next_values(alloc, numbering, first, values, beginning)?;
-    let levels = levels(alloc, &next)?;
+) -> Result<Vec<Option<Due>>, AllocError>
+    requires { first + length values.now < 2 ^ 63 }
+    ensures length { IfOk result (λ dues. length dues.items ≡ length values.now) }
+    ensures each { IfOk result (λ dues. (k : ℕ) (v : ValueRecord) → slice_get values.now k ≡ Some v → due_in dues.items k ≡ place_due numbering.now first values.now k v) }
+{
+    let levels = levels(alloc, numbering, first, values)?;
     let mut due = Vec::with_capacity(alloc, values.len())?;
     for (place, value) in values.iter().enumerate() {
-        let when = match class(value) {
-            None => Some((ANYTIME, CHECKS, place)),
-            Some(class) => match slot(first, values, beginning, state_of(numbering, value)) {
-                Some(slot) => match levels.get(slot).copied() {
-                    Some(Some(level)) => Some((level, class, place)),
-                    _ => None,
-                },
-                None => None,
-            },
-        };
-        due.push(when)?;
+        due.push(when(numbering, &levels, place, value))?;
     }
     Ok(due)
+}
+
+/// When a value is due, by the levels of the block's states.
+fn when(
+    numbering: &Numbering,
+    levels: &BTreeMap<usize, usize>,
+    place: usize,
+    value: &Value,
+) -> Option<Due>
+    ensures { seen_at (Some result) ≡ due_by (class_of value.now) (option_and_then (place_at nat_cmp levels.now) (state_place numbering.now value.now)) place }
+{
+    let Some(class) = class(value) else {
+        return Some(Due {
+            level: ANYTIME,
+            class: CHECKS,
+            place,
+        });
+    };
+    let state = state_at(numbering, value)?;
+    let level = *levels.get(&state)?;
+    Some(Due {
+        level,
+        class,
+        place,
+    })
+}
+
+/// For each state of the block how many come before it.
+fn levels(
+    alloc: Global,
+    numbering: &Numbering,
+    first: usize,
+    values: &[Value],
+) -> Result<BTreeMap<usize, usize>, AllocError>
+    requires { first + length values.now < 2 ^ 63 }
+    ensures { IfOk result (λ levels. (s : ℕ) → place_at nat_cmp levels s ≡ position (λ x. x == s) (states_of numbering.now first values.now)) }
+{
+    let next = first_places(alloc, &followed(alloc, numbering, values)?)?;
+    let beginning = beginning(numbering, first, values);
+    first_places(
+        alloc,
+        &states(alloc, &next, first, values.len(), beginning)?,
+    )
+}
+
+/// The states of the block from the one that it begins with, each followed by the next.
+fn states(
+    alloc: Global,
+    next: &BTreeMap<usize, usize>,
+    first: usize,
+    count: usize,
+    beginning: Option<usize>,
+) -> Result<Vec<usize>, AllocError>
+    requires short { first + count < 2 ^ 63 }
+    requires within { (s : ℕ) → IfSome (place_at nat_cmp next.now s) (λ k. k < count) }
+    ensures { IfOk result (λ states. states.items ≡ walked (λ s. option_map (λ k. first + k) (place_at nat_cmp next.now s)) (count + 1) beginning) }
+{
+    let mut states = Vec::new(alloc);
+    let mut state = beginning;
+    for _ in 0..count + 1 {
+        let Some(place) = state else { break };
+        states.push(place)?;
+        state = match next.get(&place) {
+            Some(local) => Some(first + *local),
+            None => None,
+        };
+    }
+    Ok(states)
+}
+
+/// For each value of the block the state that it names as a memory value; for others the place after all
+/// values.
+fn followed(
+    alloc: Global,
+    numbering: &Numbering,
+    values: &[Value],
+) -> Result<Vec<usize>, AllocError>
+    ensures { IfOk result (λ list. list.items ≡ map (followed_by numbering.now) values.now) }
+{
+    let mut list = Vec::with_capacity(alloc, values.len())?;
+    for value in values {
+        list.push(followed_state(numbering, value))?;
+    }
+    Ok(list)
+}
+
+fn followed_state(numbering: &Numbering, value: &Value) -> usize
+    ensures { result ≡ followed_by numbering.now value.now }
+{
+    if has_effect(value) {
+        state_at(numbering, value).unwrap_or(numbering.count())
+    } else {
+        numbering.count()
+    }
+}
+
+/// The state that a block begins with: the first that a value names and that no value of the block gives.
+fn beginning(numbering: &Numbering, first: usize, values: &[Value]) -> Option<usize>
+    ensures { result ≡ beginning_of numbering.now first values.now }
+{
+    for value in values {
+        if let Some(state) = acting_state(numbering, value) {
+            if !is_given(first, values, state) {
+                return Some(state);
+            }
+        }
+    }
+    None
+}
+
+/// Whether a value of the block with an effect stands at the place.
+fn is_given(first: usize, values: &[Value], place: usize) -> bool
+    ensures { result ≡ meant_given first values.now place }
+{
+    match local(first, values, place) {
+        Some(local) => has_effect(&values[local]),
+        None => false,
+    }
+}
+
+/// The place in a block of the value at a place of the function.
+pub(crate) fn local(first: usize, values: &[Value], place: usize) -> Option<usize>
+    ensures value { result ≡ local_in first (length values.now) place }
+    ensures within { IfSome result (λ k. k < length values.now) }
+{
+    let local = place.checked_sub(first)?;
+    if local < values.len() {
+        Some(local)
+    } else {
+        None
+    }
+}
+
+/// The place of the state at which the value does something.
+fn acting_state(numbering: &Numbering, value: &Value) -> Option<usize>
+    ensures { result ≡ acting_place numbering.now value.now }
+{
+    let _class = class(value)?;
+    state_at(numbering, value)
+}
+
+/// The place of the state that the value names.
+fn state_at(numbering: &Numbering, value: &Value) -> Option<usize>
+    ensures { result ≡ state_place numbering.now value.now }
+{
+    numbering.memory(memory_arg(value)?)
+}
+
+/// The argument that names a state of memory: of a result its call, of an op with memory the last.
+fn memory_arg(value: &Value) -> Option<u32>
+    ensures { result ≡ meant_arg (meant_origin value.now.op.family) value.now }
+{
+    let args = value.args.as_slice();
+    match origin_of(value.op.family) {
+        Origin::Result => args.first().copied(),
+        _ => last_memory(value),
+    }
+}
+
+/// The last argument, if the op has memory.
+fn last_memory(value: &Value) -> Option<u32>
+    ensures { result ≡ (if (info_of value.now.op).memory then last_or None value.now.args else None) }
+{
+    if op_info(value.op).memory {
+        value.args.as_slice().last().copied()
+    } else {
+        None
+    }
+}
+
+/// The class of what the value does at a state.
+fn class(value: &Value) -> Option<u32>
+    ensures { result ≡ class_of value.now }
+{
+    match origin_of(value.op.family) {
+        Origin::Checked => Some(CHECKS),
+        Origin::Loaded => Some(LOADS),
+        _ if has_effect(value) => Some(NEXT),
+        _ => None,
+    }
+}
+
+fn has_effect(value: &Value) -> bool
+    ensures { result ≡ meant_effect value.now }
+{
+    effect_of(value.op.family, value.ty).is_some()
 }

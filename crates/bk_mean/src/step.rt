@@ -9,7 +9,8 @@ ghost use Rattle.bk_func.specs.Numbers.{Program, Env, loaded, origin_of as meant
 ghost use Rattle.bk_func.specs.Meaning.{World, Activation, Calls, trapped, fault_by, gives, with_window, moved, done_by, store_size as meant_size, stored_of as meant_stored};
 ghost use Rattle.bk_mean.specs.Machine.{arg_number};
 ghost use Rattle.bk_mean.specs.Seen.{seen_origin, seen_effect};
-ghost use Rattle.bk_mean.specs.Step.{Reads, Stands, Follows, IsSettled, IsActed, IsCalling, Sees, settled, fault_of, with_words, seeing, after_run, is_store as is_store_op, is_byte_store as is_byte_store_op, size_beside as meant_beside};
+ghost use Rattle.bk_mean.specs.Turned.{IsTurn};
+ghost use Rattle.bk_mean.specs.Step.{IsNoCall, Reads, Stands, Follows, IsSettled, IsActed, IsCalling, Sees, settled, fault_of, with_words, seeing, after_run, is_store as is_store_op, is_byte_store as is_byte_store_op, size_beside as meant_beside};
 
 use crate::fit::word_bits;
 use crate::memory::{DATA_BASE, copy_bytes, write_zeros};
@@ -58,12 +59,7 @@ pub(crate) fn step(
     window: &mut Vec<u8>,
     words: &mut CallWords,
 ) -> Result<After, AllocError>
-    ensures quiet { IfOk result (λ after. meant_effect value.now.op.family value.now.ty ≡ None → (window.new.items ≡ window.old.items) × (words.new ≡ words.old)) }
-    ensures fault { IfOk result (λ after. meant_effect value.now.op.family value.now.ty ≡ None → (p : Program) (f : FuncRecord) (e : Env) (m : ℕ → ℕ) → Stands p f e given.entry.target given.entry.types.now given.entry.args.now → Reads numbers.old ready.now.args.items m value.now.args → IsSettled (meant_origin value.now.op.family) given.entry.target value.now → fault_of after ≡ fault_by (meant_origin value.now.op.family) given.entry.target m window.old.items value.now) }
-    ensures number { IfOk result (λ after. meant_effect value.now.op.family value.now.ty ≡ None → (p : Program) (f : FuncRecord) (e : Env) (m : ℕ → ℕ) → Stands p f e given.entry.target given.entry.types.now given.entry.args.now → ready.now.address ≡ address_of p.pkg value.now.aux → Reads numbers.old ready.now.args.items m value.now.args → IsSettled (meant_origin value.now.op.family) given.entry.target value.now → Sees f e window.old.items (meant_origin value.now.op.family) value.now → fault_of after ≡ None → numbers.new ≡ settled (meant_origin value.now.op.family) numbers.old place (number_by (meant_origin value.now.op.family) p f e m value.now)) }
-    ensures acted { IfOk result (λ after. (x : Effects) → meant_effect value.now.op.family value.now.ty ≡ Some x → numbers.new ≡ numbers.old) }
-    ensures effect { IfOk result (λ after. (x : Effects) → meant_effect value.now.op.family value.now.ty ≡ Some x → (p : Program) (m : ℕ → ℕ) (calls : Calls) (a : Activation) (w : World) → p.target ≡ given.entry.target → Reads numbers.old ready.now.args.items m value.now.args → IsActed x given.entry.target value.now → done_by (Some x) calls p m value.now (with_words a words.old) (seeing w window.old.items) ≡ after_run after (with_words a words.new) (seeing w window.new.items)) }
-    ensures call { IfOk result (λ after. (x : Effects) → meant_effect value.now.op.family value.now.ty ≡ Some x → IsCalling x → (after ≡ After.Call) × (window.new.items ≡ window.old.items) × (words.new ≡ words.old)) }
+    ensures { IfOk result (λ after. IsTurn (record { target = given.entry.target; types = given.entry.types.now; args = given.entry.args.now }) value.now ready.now place (record { numbers = numbers.old; window = window.old.items; words = words.old }) (record { numbers = numbers.new; window = window.new.items; words = words.new }) after) }
 {
     match effect_of(value.op.family, value.ty) {
         Some(effect) => step_memory(effect, value, ready, given.target, numbers, window, words),
@@ -86,6 +82,7 @@ fn step_memory(
 ) -> Result<After, AllocError>
     ensures effect { IfOk result (λ after. (p : Program) (m : ℕ → ℕ) (calls : Calls) (a : Activation) (w : World) → p.target ≡ target → Reads numbers.now ready.now.args.items m value.now.args → IsActed (seen_effect effect) target value.now → done_by (Some (seen_effect effect)) calls p m value.now (with_words a words.old) (seeing w window.old.items) ≡ after_run after (with_words a words.new) (seeing w window.new.items)) }
     ensures call { IfOk result (λ after. IsCalling (seen_effect effect) → (after ≡ After.Call) × (window.new.items ≡ window.old.items) × (words.new ≡ words.old)) }
+    ensures calling { IfOk result (λ after. ¬ IsCalling (seen_effect effect) → IsNoCall after) }
 {
     match effect {
         Effect::Call | Effect::CallWords => Ok(After::Call),
@@ -103,6 +100,7 @@ fn settle(
     numbers: &mut [u64],
     window: &[u8],
 ) -> After
+    ensures on { IsNoCall result }
     ensures fault { (p : Program) (f : FuncRecord) (e : Env) (m : ℕ → ℕ) → Stands p f e given.entry.target given.entry.types.now given.entry.args.now → Reads numbers.old ready.now.args.items m value.now.args → IsSettled (seen_origin origin) given.entry.target value.now → fault_of result ≡ fault_by (seen_origin origin) given.entry.target m window.now value.now }
     ensures number { (p : Program) (f : FuncRecord) (e : Env) (m : ℕ → ℕ) → Stands p f e given.entry.target given.entry.types.now given.entry.args.now → ready.now.address ≡ address_of p.pkg value.now.aux → Reads numbers.old ready.now.args.items m value.now.args → IsSettled (seen_origin origin) given.entry.target value.now → Sees f e window.now (seen_origin origin) value.now → fault_of result ≡ None → numbers.new ≡ settled (seen_origin origin) numbers.old place (number_by (seen_origin origin) p f e m value.now) }
 {
@@ -151,7 +149,8 @@ fn place_of_arg(aux: Aux) -> usize
     }
 }
 
-fn set(numbers: &mut [u64], place: usize, number: u64)
+/// Puts a number in its place, if that is there.
+pub(crate) fn set(numbers: &mut [u64], place: usize, number: u64)
     ensures { numbers.new ≡ slice_set numbers.old place number }
 {
     if place < numbers.len() {
@@ -162,6 +161,7 @@ fn set(numbers: &mut [u64], place: usize, number: u64)
 /// The number of a pointer that a check finds, or a trap where it is 0.
 fn check(ready: &ReadyValue, place: usize, target: Target, numbers: &mut [u64]) -> After
     ensures number { numbers.new ≡ slice_set numbers.old place (arg_number numbers.old ready.now.args.items 0) }
+    ensures on { IsNoCall result }
     ensures fault { fault_of result ≡ (if arg_number numbers.old ready.now.args.items 0 % 2 ^ word_width target == 0 then Some (trapped 1) else None) }
 {
     let number = arg(numbers, ready.args.as_slice(), 0);
@@ -181,6 +181,7 @@ fn load(
     numbers: &mut [u64],
     window: &[u8],
 ) -> After
+    ensures on { IsNoCall result }
     ensures fault { (m : ℕ → ℕ) → Reads numbers.old ready.now.args.items m value.now.args → IsSettled loaded target value.now → fault_of result ≡ fault_by loaded target m window.now value.now }
     ensures number { (m : ℕ → ℕ) → Reads numbers.old ready.now.args.items m value.now.args → IsSettled loaded target value.now → fault_of result ≡ None → numbers.new ≡ slice_set numbers.old place (meant_number value.now.op.family value.now.ty value.now.op.a (read_at target value.now window.now (address_by target value.now m))) }
 {
@@ -205,7 +206,8 @@ fn act(
     window: &mut Vec<u8>,
     words: &mut CallWords,
 ) -> Result<After, AllocError>
-    ensures { IfOk result (λ after. (p : Program) (m : ℕ → ℕ) (calls : Calls) (a : Activation) (w : World) → p.target ≡ target → Reads numbers.now ready.now.args.items m value.now.args → IsActed (seen_effect effect) target value.now → done_by (Some (seen_effect effect)) calls p m value.now (with_words a words.old) (seeing w window.old.items) ≡ after_run after (with_words a words.new) (seeing w window.new.items)) }
+    ensures on { IfOk result (λ after. IsNoCall after) }
+    ensures effect { IfOk result (λ after. (p : Program) (m : ℕ → ℕ) (calls : Calls) (a : Activation) (w : World) → p.target ≡ target → Reads numbers.now ready.now.args.items m value.now.args → IsActed (seen_effect effect) target value.now → done_by (Some (seen_effect effect)) calls p m value.now (with_words a words.old) (seeing w window.old.items) ≡ after_run after (with_words a words.new) (seeing w window.new.items)) }
 {
     let first = arg(numbers, ready.args.as_slice(), 0);
     let second = arg(numbers, ready.args.as_slice(), 1);
@@ -235,7 +237,8 @@ fn trap(int: i64) -> u8
 }
 
 fn store(value: &Value, target: Target, pointer: u64, number: u64, window: &mut Vec<u8>) -> After
-    ensures { (a : Activation) (w : World) → meant_size target value.now.aux value.now.op value.now.op.family ≤ 8 → (let at = (pointer + residue (word_width target) value.now.int) % 2 ^ word_width target in with_window (with_number window.old.items (meant_size target value.now.aux value.now.op value.now.op.family) at (meant_stored value.now.aux value.now.op.family number)) at a (seeing w window.old.items) ≡ after_run result a (seeing w window.new.items)) }
+    ensures on { IsNoCall result }
+    ensures done { (a : Activation) (w : World) → meant_size target value.now.aux value.now.op value.now.op.family ≤ 8 → (let at = (pointer + residue (word_width target) value.now.int) % 2 ^ word_width target in with_window (with_number window.old.items (meant_size target value.now.aux value.now.op value.now.op.family) at (meant_stored value.now.aux value.now.op.family number)) at a (seeing w window.old.items) ≡ after_run result a (seeing w window.new.items)) }
 {
     let address = address(target, value.int, pointer);
     let size = store_size(target, value.aux, value.op).min(8) as usize;
@@ -302,7 +305,8 @@ fn stored_of(aux: Aux, op: Op, number: u64) -> u64
 }
 
 fn zeros(value: &Value, target: Target, pointer: u64, window: &mut Vec<u8>) -> After
-    ensures { (a : Activation) (w : World) → (let to = pointer % 2 ^ word_width target in (if meant_natural value.now.int == 0 then gives a (seeing w window.old.items) else with_window (with_zeros window.old.items (meant_natural value.now.int) to) to a (seeing w window.old.items)) ≡ after_run result a (seeing w window.new.items)) }
+    ensures on { IsNoCall result }
+    ensures done { (a : Activation) (w : World) → (let to = pointer % 2 ^ word_width target in (if meant_natural value.now.int == 0 then gives a (seeing w window.old.items) else with_window (with_zeros window.old.items (meant_natural value.now.int) to) to a (seeing w window.old.items)) ≡ after_run result a (seeing w window.new.items)) }
 {
     let count = natural(value.int);
     if count == 0 {
@@ -317,7 +321,8 @@ fn zeros(value: &Value, target: Target, pointer: u64, window: &mut Vec<u8>) -> A
 }
 
 fn copy(value: &Value, target: Target, to: u64, from: u64, window: &mut Vec<u8>) -> After
-    ensures { (a : Activation) (w : World) → (let to = to % 2 ^ word_width target in let from = from % 2 ^ word_width target in (if meant_natural value.now.int == 0 then gives a (seeing w window.old.items) else moved (number_at window.old.items (meant_natural value.now.int) from) (meant_natural value.now.int) to from a (seeing w window.old.items)) ≡ after_run result a (seeing w window.new.items)) }
+    ensures on { IsNoCall result }
+    ensures done { (a : Activation) (w : World) → (let to = to % 2 ^ word_width target in let from = from % 2 ^ word_width target in (if meant_natural value.now.int == 0 then gives a (seeing w window.old.items) else moved (number_at window.old.items (meant_natural value.now.int) from) (meant_natural value.now.int) to from a (seeing w window.old.items)) ≡ after_run result a (seeing w window.new.items)) }
 {
     let count = natural(value.int);
     if count == 0 {

@@ -33,8 +33,8 @@ pub(crate) enum Callee {
 /// The functions and variables of a package by the numbers of their names.
 #[derive(Drop)]
 pub(crate) struct Symbols {
-    funcs: BTreeMap<u32, usize>,
-    vars: BTreeMap<u32, usize>,
+    funcs: BTreeMap<usize, usize>,
+    vars: BTreeMap<usize, usize>,
     /// Where each variable begins, and last where one after all would.
     starts: Vec<u64>,
 }
@@ -68,7 +68,7 @@ impl Symbols {
     fn func(&self, name: u32) -> Callee
         ensures { (p : PackageRecord) → IsNaming p self.now → result ≡ callee_found (position (λ g. g.name == name) p.funcs) }
     {
-        match self.funcs.get(&name) {
+        match self.funcs.get(&(name as usize)) {
             Some(place) => Callee::Func(*place),
             None => Callee::Missing,
         }
@@ -94,7 +94,7 @@ impl Symbols {
     fn var(&self, name: u32) -> usize
         ensures { (p : PackageRecord) → IsNaming p self.now → result ≡ position_or_len (λ x. x.name == name) p.vars }
     {
-        match self.vars.get(&name) {
+        match self.vars.get(&(name as usize)) {
             Some(place) => *place,
             None => self.starts.len().saturating_sub(1),
         }
@@ -111,22 +111,22 @@ fn symbol(aux: Aux) -> u32
     }
 }
 
-fn func_names(alloc: Global, funcs: &[Func]) -> Result<Vec<u32>, AllocError>
+fn func_names(alloc: Global, funcs: &[Func]) -> Result<Vec<usize>, AllocError>
     ensures { IfOk result (λ names. names.items ≡ map (λ g. g.name) funcs.now) }
 {
     let mut names = Vec::with_capacity(alloc, funcs.len())?;
     for func in funcs {
-        names.push(func.name)?;
+        names.push(func.name as usize)?;
     }
     Ok(names)
 }
 
-fn var_names(alloc: Global, vars: &[Var]) -> Result<Vec<u32>, AllocError>
+fn var_names(alloc: Global, vars: &[Var]) -> Result<Vec<usize>, AllocError>
     ensures { IfOk result (λ names. names.items ≡ map (λ x. x.name) vars.now) }
 {
     let mut names = Vec::with_capacity(alloc, vars.len())?;
     for var in vars {
-        names.push(var.name)?;
+        names.push(var.name as usize)?;
     }
     Ok(names)
 }

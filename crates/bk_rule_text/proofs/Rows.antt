@@ -1,5 +1,5 @@
 -- The texts of trees whose arguments are a list.
-use Rattle.std.proofs.Common.{◌≡◌, ℕ, suc, ◌+◌, ◌<◌, ◌≤◌, refl, ap, sym, ◌∙◌, arith, List, [], ◌∷◌, ◌++◌, map, length, get_or, Option, codes, Bool, true, false}
+use Rattle.std.proofs.Common.{◌≡◌, ℕ, suc, ◌<◌, ◌≤◌, refl, ap, sym, ◌∙◌, arith, List, [], ◌∷◌, ◌++◌, map, length, get_or, Option, codes, true, false}
 use Rattle.std.specs.Prelude.{if◌then◌else◌}
 use Rattle.bk_ops.specs.declared.table.Op.{Op}
 use Rattle.bk_rule.specs.declared.trees.Fun.{Fun}

@@ -1,5 +1,5 @@
 -- What a printer wrote, put together from its parts.
-use Rattle.std.proofs.Common.{◌≡◌, ℕ, ◌<◌, ◌≤◌, refl, ap, sym, subst, ◌∙◌, arith, List, [], ◌∷◌, ◌++◌, append_assoc, map, length, get_or, Option, codes, Bool, true, false, Result, OnOk}
+use Rattle.std.proofs.Common.{◌≡◌, ℕ, ◌<◌, ◌≤◌, ap, sym, subst, ◌∙◌, arith, List, ◌++◌, append_assoc, map, length, get_or, Option, codes, Bool, true, false, Result, OnOk}
 use Rattle.std.proofs.lemmas.Bool.Decides.{nat_tests}
 use Rattle.bk_ops.specs.declared.table.Op.{Op}
 use Rattle.bk_rule.specs.declared.trees.Fun.{Fun}

@@ -1,5 +1,5 @@
 -- Right trees at the front of a text.
-use Rattle.std.specs.Prelude.{ℕ, zero, suc, List, [], ◌∷◌, length, Option, Some, None, codes}
+use Rattle.std.specs.Prelude.{ℕ, zero, suc, List, length, Option, Some, None, codes}
 use Rattle.std.specs.Option.{option_map_or}
 use Rattle.bk_rule.specs.declared.trees.Expr.{Expr}
 use Rattle.bk_rule.specs.declared.trees.TyPart.{TyPart}

@@ -1,5 +1,5 @@
 -- Expressions at the front of a text.
-use Rattle.std.specs.Prelude.{ℕ, zero, suc, Bool, if◌then◌else◌, List, [], ◌∷◌, length, Option, Some, None, codes}
+use Rattle.std.specs.Prelude.{ℕ, zero, suc, if◌then◌else◌, List, [], ◌∷◌, length, Option, Some, None, codes}
 use Rattle.std.specs.List.{find}
 use Rattle.std.specs.Option.{option_map_or, is_some}
 use Rattle.std.specs.Str.{bytes_eq}
@@ -11,7 +11,7 @@ use Rattle.bk_rule_text.specs.declared.read.operator.Level.{Level}
 use Rattle.bk_rule_text.specs.declared.read.operator.Level.TheVariants as level
 use Rattle.bk_rule_text.specs.declared.read.operator.Operands.{Operands}
 use Rattle.bk_rule_text.specs.declared.read.operator.Operands.TheVariants as operands
-use Rattle.bk_rule_text.specs.Front.{◌>>=◌, Read, or_else, unblanked, after, mark_at, closed, where_marked}
+use Rattle.bk_rule_text.specs.Front.{◌>>=◌, Read, or_else, unblanked, after, closed, where_marked}
 use Rattle.bk_rule_text.specs.Layout.{symbol}
 use Rattle.bk_rule_text.specs.Names.{Variables, in_scope}
 use Rattle.bk_rule_text.specs.Numbers.{begins_number, number_at}

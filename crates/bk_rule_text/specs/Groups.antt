@@ -30,44 +30,44 @@ group_at text = do
   g ← parts_at (length r) r
   if length g.0 == 1 then None else Some g
 
-pub data Bit : Type 0 where
-  byte : ℕ → Bit
-  group : List (List ℕ) → Bit
+pub data BitTree : Type 0 where
+  byte : ℕ → BitTree
+  group : List (List ℕ) → BitTree
 
 -- a group where one stands, else a byte
-abbrev pub bit_of : Option (List (List ℕ) × List ℕ) → ℕ → List ℕ → Bit × List ℕ
-bit_of None c text = (byte c, text)
-bit_of (Some g) c text = (group g.0, g.1)
+abbrev pub bit_at : Option (List (List ℕ) × List ℕ) → ℕ → List ℕ → BitTree × List ℕ
+bit_at None c text = (byte c, text)
+bit_at (Some g) c text = (group g.0, g.1)
 
 -- the bits of a line, which are at most as many as its bytes
-unfoldable pub bits_at : ℕ → List ℕ → List Bit
+unfoldable pub bits_at : ℕ → List ℕ → List BitTree
 bits_at zero text = []
 bits_at (suc n) [] = []
-bits_at (suc n) (c ∷ text) = (bit_of (group_at (c ∷ text)) c text).0 ∷ bits_at n (bit_of (group_at (c ∷ text)) c text).1
+bits_at (suc n) (c ∷ text) = (bit_at (group_at (c ∷ text)) c text).0 ∷ bits_at n (bit_at (group_at (c ∷ text)) c text).1
 
-unfoldable pub bits : List ℕ → List Bit
+unfoldable pub bits : List ℕ → List BitTree
 bits line = bits_at (length line) line
 
 -- the count of the parts of the first group, 1 where there is none
-unfoldable pub first_count : List Bit → ℕ
+unfoldable pub first_count : List BitTree → ℕ
 first_count [] = 1
 first_count (byte c ∷ bs) = first_count bs
 first_count (group parts ∷ bs) = length parts
 
-abbrev pub has_count : ℕ → Bit → Bool
+abbrev pub has_count : ℕ → BitTree → Bool
 has_count n (byte c) = true
 has_count n (group parts) = length parts == n
 
 -- how many rules a line stands for, none where its groups have different numbers of parts
-unfoldable pub count_of : List Bit → Option ℕ
+unfoldable pub count_of : List BitTree → Option ℕ
 count_of bs = if list_all (has_count (first_count bs)) bs then Some (first_count bs) else None
 
 -- what a bit stands for in the rule at a place
-abbrev pub bytes_at : ℕ → Bit → List ℕ
+abbrev pub bytes_at : ℕ → BitTree → List ℕ
 bytes_at k (byte c) = c ∷ []
 bytes_at k (group parts) = slice_index_or parts k []
 
 -- the text of the rule at a place
-unfoldable pub expanded : ℕ → List Bit → List ℕ
+unfoldable pub expanded : ℕ → List BitTree → List ℕ
 expanded k [] = []
 expanded k (b ∷ bs) = bytes_at k b ++ expanded k bs

@@ -10,4 +10,5 @@ pub mod Rules
 pub mod Stands
 pub mod Texts
 pub mod Views
+pub mod Widths
 pub mod Words

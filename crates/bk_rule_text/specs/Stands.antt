@@ -1,5 +1,5 @@
 -- Whether the ops of a rule stand as they may.
-use Rattle.std.specs.Prelude.{ℕ, suc, ◌==◌, ◌&&◌, ◌||◌, Bool, true, false, not, if◌then◌else◌, List, [], ◌∷◌, ◌++◌, Option, Some, None}
+use Rattle.std.specs.Prelude.{ℕ, suc, ◌==◌, ◌&&◌, ◌||◌, Bool, true, false, not, List, [], ◌∷◌, ◌++◌, Option, Some, None}
 use Rattle.std.specs.List.{list_all}
 use Rattle.std.specs.Option.{is_some}
 use Rattle.bk_ops.specs.declared.table.Op.{Op}
@@ -87,9 +87,13 @@ unfoldable pub sort_of_aux : Op → Sort
 sort_of_aux o = of_aux (info_of o).aux o.family
 
 -- what is said of a variable, where one stands
-abbrev pub said : Option ℕ → Sort → List (ℕ × Sort)
-said None s = []
-said (Some i) s = (i, s) ∷ []
+abbrev pub said : {A : Type 0} → Option ℕ → A → List (ℕ × A)
+said None what = []
+said (Some i) what = (i, what) ∷ []
+
+-- all that is said of one variable is the same
+unfoldable pub agree : {A : Type 0} → (A → A → Bool) → List (ℕ × A) → Bool
+agree same xs = list_all (λ x. list_all (λ y. not (x.0 == y.0) || same x.1 y.1) xs) xs
 
 abbrev pub variable_of_int : Option IntPart → Option ℕ
 variable_of_int None = None
@@ -111,6 +115,10 @@ abbrev mutual
   pub row_sorts : {m : _} → Row_of-Pattern m → List (ℕ × Sort)
   row_sorts end_of-Pattern = []
   row_sorts (more_of-Pattern p ps) = pattern_sorts p ++ row_sorts ps
+
+unfoldable pub patterns_sorts : List Pattern → List (ℕ × Sort)
+patterns_sorts [] = []
+patterns_sorts (p ∷ ps) = pattern_sorts p ++ patterns_sorts ps
 
 unfoldable pub sort_of_operand : Fun → Sort
 sort_of_operand fun.Size = sort.Type
@@ -147,5 +155,17 @@ abbrev mutual
   made_row_sorts end_of-Build = []
   made_row_sorts (more_of-Build b bs) = build_sorts b ++ made_row_sorts bs
 
+unfoldable pub builds_sorts : List Build → List (ℕ × Sort)
+builds_sorts [] = []
+builds_sorts (b ∷ bs) = build_sorts b ++ builds_sorts bs
+
 unfoldable pub rule_sorts : Rule → List (ℕ × Sort)
 rule_sorts r = pattern_sorts r.left ++ (exprs_sorts r.conds sort.Int ++ build_sorts r.right)
+
+abbrev pub same_sort : Sort → Sort → Bool
+same_sort sort.Value sort.Value = true
+same_sort sort.Int sort.Int = true
+same_sort sort.Type sort.Type = true
+same_sort sort.Symbol sort.Symbol = true
+same_sort sort.Argument sort.Argument = true
+same_sort _ _ = false

@@ -7,8 +7,6 @@ mod errors;
 mod printer;
 mod read;
 mod stands;
-#[cfg(test)]
-mod tests;
 
 pub use bk_rule::{Memory, Rule};
 pub use errors::RuleError;

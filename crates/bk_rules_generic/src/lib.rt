@@ -14,8 +14,6 @@ mod conversions;
 mod families;
 mod lines;
 mod list;
-#[cfg(test)]
-mod tests;
 
 use bk_rule::{Memory, Rule};
 use std::alloc::{AllocError, Global};

@@ -15,6 +15,3 @@ pub use encoder::encode;
 pub use inst::{BranchOp, ImmediateOp, Inst, LoadOp, RegisterOp, ShiftOp, StoreOp};
 pub use laws::{a_stop_changes_nothing, memory_keeps_its_bytes, one_word_each};
 pub use stop::Stop;
-
-#[cfg(test)]
-mod tests;

@@ -26,6 +26,7 @@ pub mod Calls
 pub mod Shown
 pub mod Endings
 pub mod Named
+pub mod Told
 pub mod Actions
 pub mod Counts
 pub mod Adding

@@ -1,11 +1,11 @@
 -- What the program owes after a refusal.
-use Rattle.std.proofs.Common.{◌≡◌, ℕ, ◌<◌, ◌≤◌, List, [], get_or, Option, Some, None, refl, sym, ◌∙◌, ap, subst, length, ◌⊎◌, inl, inr, arith, IfSome}
+use Rattle.std.proofs.Common.{◌≡◌, ℕ, ◌<◌, ◌≤◌, List, [], get_or, Option, Some, None, refl, sym, ◌∙◌, ap, subst, length, ◌⊎◌, inl, inr, arith, IfSome, ⊎_elim}
 use Rattle.bk_io.specs.Faults.{Rose}
 use Rattle.bk_top.specs.declared.refusal.Refusal.{Refusal}
 use Rattle.bk_top.specs.declared.refusal.Refusal.TheVariants.{Words, ReadFault, TooLong, Syntax, Limit, Duplicate, Undefined, FormFault, NotYet, Object, Function, Arguments, WriteFault, Memory}
 use Rattle.bk_top.specs.Commands.{CommandRecord, compile_row, check_row, generate_row, run_row, evaluate_row, rules_row, words_of, Asks}
 use Rattle.bk_top.specs.Refusals.{status}
-use Rattle.bk_top.specs.Answer.{IsNarrowText, NoFault, Stems, Cause, Tells, Refused}
+use Rattle.bk_top.specs.Answer.{IsNarrowText, NoFault, Compiles, Makes, Stems, Cause, Gains, Compiled, Tells, Refused}
 
 -- only `compile` has its words
 asks_compile : (words : List (List ℕ)) (c : CommandRecord) → words ≡ words_of compile_row → Asks words c → c ≡ compile_row
@@ -45,11 +45,11 @@ not_refused text before now Words s narrow quiet = absurd s
 not_refused text before now WriteFault s narrow quiet = absurd s
 not_refused text before now ReadFault s narrow quiet = absurd (quiet s.1)
 not_refused text before now TooLong s narrow quiet = absurd (let long : 16777216 < length text = s.1 in let short : length text ≤ 65536 = narrow.0 in omega arith)
-not_refused text before now (Syntax n) s narrow quiet = absurd (s.1 narrow)
-not_refused text before now (Limit which n) s narrow quiet = absurd (s.1 narrow)
-not_refused text before now (Duplicate n) s narrow quiet = absurd (s.1 narrow)
-not_refused text before now (Undefined name) s narrow quiet = absurd (s.1 narrow)
-not_refused text before now (FormFault func kind place) s narrow quiet = absurd (s.1 narrow)
+not_refused text before now (Syntax n) s narrow quiet = absurd (s.1.0 narrow)
+not_refused text before now (Limit which n) s narrow quiet = absurd (s.1.0 narrow)
+not_refused text before now (Duplicate n) s narrow quiet = absurd (s.1.0 narrow)
+not_refused text before now (Undefined name) s narrow quiet = absurd (s.1.0 narrow)
+not_refused text before now (FormFault func kind place) s narrow quiet = absurd (s.1.0 narrow)
 not_refused text before now NotYet s narrow quiet = absurd (s.1.0 narrow)
 not_refused text before now (Object e) s narrow quiet = absurd s.1
 not_refused text before now Function s narrow quiet = absurd s.1
@@ -75,3 +75,10 @@ pub no_command_completes : (words : List (List ℕ)) (input : Option (List ℕ))
     → IfSome input (λ text. words ≡ words_of compile_row → IsNarrowText text → NoFault i i' → NoFault o o' → NoFault e e' → (answer ≡ 0) ⊎ (answer ≡ 6))
 no_command_completes words None answer i i' o o' e e' none = tt
 no_command_completes words (Some text) answer i i' o o' e e' none = λ is narrow a b d. absurd (none compile_row (is, tt))
+
+-- of a narrow text that is known, the object that its functions make up was written
+pub compiled : (words : List (List ℕ)) (input before now : Option (List ℕ)) → words ≡ words_of compile_row → Gains words input before now → IfSome input (λ text. IsNarrowText text → Compiled text before now)
+compiled words None before now is g = tt
+compiled words (Some text) before now is g = λ narrow.
+    let made = subst (λ c. Makes c (Some text) g.bytes) (asks_compile words g.command is g.asked) g.made in
+    ⊎_elim (λ t. record { bytes = g.bytes; translates = t; gained = g.gained }) (λ w. absurd (w.0 narrow)) (subst (λ t. Compiles t g.bytes) made.1 made.2)

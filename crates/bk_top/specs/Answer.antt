@@ -1,5 +1,7 @@
 -- What the program answers to its words and its input.
 use Rattle.std.specs.Prelude.{◌≡◌, ℕ, ◌<◌, ◌≤◌, List, ◌++◌, length, take, map, sum_by, Option, IfSome, IsTrue, All, false, Ok, Err, codes, ◌⊎◌}
+use Rattle.bk_ops.specs.declared.types.Target.{Target}
+use Rattle.bk_ops.specs.declared.types.Target.TheVariants.{Riscv64}
 use Rattle.std.specs.Fmt.{decimal}
 use Rattle.std.specs.Io.KnownBytes.{Appends}
 use Rattle.bk_io.specs.Faults.{Rose}
@@ -7,6 +9,8 @@ use Rattle.bk_elf.specs.declared.errors.LoadError.{LoadError}
 use Rattle.bk_elf.specs.File.{file_of}
 use Rattle.bk_elf.specs.Loading.{loaded}
 use Rattle.bk_func.specs.Records.{PackageRecord}
+use Rattle.bk_dump.specs.declared.read.errors.DumpError.{DumpError}
+use Rattle.bk_dump.specs.declared.read.errors.DumpError.TheVariants as why
 use Rattle.bk_dump.specs.Print.{text_of}
 use Rattle.bk_dump.specs.Generate.{generated}
 use Rattle.bk_top.specs.declared.refusal.Refusal.{Refusal}
@@ -20,6 +24,7 @@ use Rattle.bk_top.specs.Meaning.{meaning, Returns}
 use Rattle.bk_top.specs.Pieces.{narrow_piece, func_piece, name_in, object_of, AreNamed}
 use Rattle.bk_top.specs.Runs.{Serves}
 use Rattle.bk_top.specs.Running.{Runs, LacksFunction, Misfits}
+use Rattle.bk_top.specs.Package.{ReadsAs}
 use Rattle.bk_top.specs.Evaluating.{Evaluates, LacksNamed, MisfitsNamed}
 use Rattle.bk_top.specs.Listing.{listing}
 
@@ -38,32 +43,39 @@ pub record Translates (text bytes : List ℕ) : Type 0 where
   pub serve : All (λ f. Serves (object_of (map narrow_piece functions)) f.name (routine_of_narrow f) (λ args n. n ≡ meaning f args)) functions
 
 -- The bytes are the file of the object of a package of sums; there each function does what it returns.
-pub record TranslatesPackage (bytes : List ℕ) : Type 0 where
-  pub pkg : PackageRecord
+pub record TranslatesSums (pkg : PackageRecord) (bytes : List ℕ) : Type 0 where
   pub adds : IsTrue (is_sums pkg)
   pub file : bytes ≡ file_of (object_of (map (func_piece pkg.names) pkg.funcs))
   pub loads : loaded bytes ≡ Ok (object_of (map (func_piece pkg.names) pkg.funcs))
   pub serve : All (λ f. Serves (object_of (map (func_piece pkg.names) pkg.funcs)) (name_in pkg.names f) (routine_of f) (Returns f)) pkg.funcs
 
--- what `compile` makes of a text: that of a narrow text by what it spells, that of another by the package that was read
+-- the same of the package that the text reads as
+abbrev pub TranslatesPackage : List ℕ → List ℕ → Type 0
+TranslatesPackage text bytes = (p : PackageRecord) × ReadsAs text Riscv64 (Ok p) × TranslatesSums p bytes
+
+-- what `compile` makes of a text: that of a narrow text by what it spells, that of another by the package that it reads as
 abbrev pub Compiles : List ℕ → List ℕ → Type 0
-Compiles text bytes = Translates text bytes ⊎ ((IsNarrowText text → ⊥) × TranslatesPackage bytes)
+Compiles text bytes = Translates text bytes ⊎ ((IsNarrowText text → ⊥) × TranslatesPackage text bytes)
 
 -- the line of a package's counts
 abbrev pub counts : PackageRecord → List ℕ
 counts p = codes "ok " ++ (decimal (length p.funcs) ++ (codes " functions " ++ (decimal (sum_by (λ f. f.given) p.funcs) ++ codes " values\n")))
 
--- what `check` makes: the counts of the package that was read
-abbrev pub Checks : List ℕ → Type 0
-Checks bytes = (p : PackageRecord) × (bytes ≡ counts p)
+-- what `check` makes: the counts of the package that the text reads as
+abbrev pub Checks : Target → List ℕ → List ℕ → Type 0
+Checks target text bytes = (p : PackageRecord) × ReadsAs text target (Ok p) × (bytes ≡ counts p)
+
+-- the bytes of an input, where they are known
+abbrev pub IsInput : Option (List ℕ) → List ℕ → Type 0
+IsInput input text = IfSome input (λ bytes. text ≡ bytes)
 
 -- what a command makes of an input
 abbrev pub Makes : CommandRecord → Option (List ℕ) → List ℕ → Type 0
-Makes compile_row input bytes = IfSome input (λ text. Compiles text bytes)
-Makes (check_row target) input bytes = Checks bytes
+Makes compile_row input bytes = (text : List ℕ) × IsInput input text × Compiles text bytes
+Makes (check_row target) input bytes = (text : List ℕ) × IsInput input text × Checks target text bytes
 Makes (generate_row n) input bytes = bytes ≡ text_of (generated n)
-Makes (run_row call) input bytes = IfSome input (λ object. Runs call object bytes)
-Makes (evaluate_row target call) input bytes = Evaluates target call bytes
+Makes (run_row call) input bytes = (object : List ℕ) × IsInput input object × Runs call object bytes
+Makes (evaluate_row target call) input bytes = (text : List ℕ) × IsInput input text × Evaluates target call text bytes
 Makes rules_row input bytes = bytes ≡ listing
 
 -- a command that reads its input
@@ -91,23 +103,27 @@ input_limit (run_row call) = object_limit
 input_limit (evaluate_row target call) = text_limit
 input_limit rules_row = text_limit
 
--- a text that a command leaves to the reader of packages
-abbrev pub IsLeft : CommandRecord → List ℕ → Type 0
-IsLeft compile_row text = IsNarrowText text → ⊥
-IsLeft (check_row target) text = Unit {0}
-IsLeft (generate_row n) text = ⊥
-IsLeft (run_row call) text = ⊥
-IsLeft (evaluate_row target call) text = Unit {0}
-IsLeft rules_row text = ⊥
+-- the reader of packages refuses the text of a command, which is no narrow text that is compiled
+abbrev pub IsUnread : CommandRecord → List ℕ → DumpError → Type 0
+IsUnread compile_row text e = (IsNarrowText text → ⊥) × ReadsAs text Riscv64 (Err e)
+IsUnread (check_row target) text e = ReadsAs text target (Err e)
+IsUnread (generate_row n) text e = ⊥
+IsUnread (run_row call) text e = ⊥
+IsUnread (evaluate_row target call) text e = ReadsAs text target (Err e)
+IsUnread rules_row text e = ⊥
 
--- the command makes code, and the package that was read is none of sums, or has names that no object holds
-abbrev pub IsNotYet : CommandRecord → Type 0
-IsNotYet compile_row = (p : PackageRecord) × ((is_sums p ≡ false) ⊎ (AreNamed (map (func_piece p.names) p.funcs) → ⊥))
-IsNotYet (check_row target) = ⊥
-IsNotYet (generate_row n) = ⊥
-IsNotYet (run_row call) = ⊥
-IsNotYet (evaluate_row target call) = ⊥
-IsNotYet rules_row = ⊥
+-- the package is none of sums, or has names that no object holds
+abbrev pub HasNoCode : PackageRecord → Type 0
+HasNoCode p = (is_sums p ≡ false) ⊎ (AreNamed (map (func_piece p.names) p.funcs) → ⊥)
+
+-- the command makes code, and the package that the text reads as has none yet
+abbrev pub IsNotYet : CommandRecord → List ℕ → Type 0
+IsNotYet compile_row text = (IsNarrowText text → ⊥) × ((p : PackageRecord) × ReadsAs text Riscv64 (Ok p) × HasNoCode p)
+IsNotYet (check_row target) text = ⊥
+IsNotYet (generate_row n) text = ⊥
+IsNotYet (run_row call) text = ⊥
+IsNotYet (evaluate_row target call) text = ⊥
+IsNotYet rules_row text = ⊥
 
 -- the command runs a function of an object, and its input is none
 abbrev pub IsNoObject : CommandRecord → List ℕ → LoadError → Type 0
@@ -124,7 +140,7 @@ HasNone compile_row text = ⊥
 HasNone (check_row target) text = ⊥
 HasNone (generate_row n) text = ⊥
 HasNone (run_row call) text = LacksFunction call text
-HasNone (evaluate_row target call) text = LacksNamed call
+HasNone (evaluate_row target call) text = LacksNamed target call text
 HasNone rules_row text = ⊥
 
 -- the command calls a function by words that do not fit it
@@ -133,7 +149,7 @@ HasOthers compile_row text = ⊥
 HasOthers (check_row target) text = ⊥
 HasOthers (generate_row n) text = ⊥
 HasOthers (run_row call) text = Misfits call text
-HasOthers (evaluate_row target call) text = MisfitsNamed target call
+HasOthers (evaluate_row target call) text = MisfitsNamed target call text
 HasOthers rules_row text = ⊥
 
 -- a refusal of a command's text
@@ -141,12 +157,12 @@ abbrev pub Spoils : CommandRecord → List ℕ → Refusal → Type 0
 Spoils command text Words = ⊥
 Spoils command text ReadFault = ⊥
 Spoils command text TooLong = ⊥
-Spoils command text (Syntax n) = IsLeft command text
-Spoils command text (Limit which n) = IsLeft command text
-Spoils command text (Duplicate n) = IsLeft command text
-Spoils command text (Undefined name) = IsLeft command text
-Spoils command text (FormFault func kind place) = IsLeft command text
-Spoils command text NotYet = IsLeft command text × IsNotYet command
+Spoils command text (Syntax n) = IsUnread command text (why.Syntax n)
+Spoils command text (Limit which n) = IsUnread command text (why.Limit which n)
+Spoils command text (Duplicate n) = IsUnread command text (why.Duplicate n)
+Spoils command text (Undefined name) = IsUnread command text (why.Undefined name)
+Spoils command text (FormFault func kind place) = IsUnread command text (why.FormFault func kind place)
+Spoils command text NotYet = IsNotYet command text
 Spoils command text (Object e) = IsNoObject command text e
 Spoils command text Function = HasNone command text
 Spoils command text Arguments = HasOthers command text
@@ -218,14 +234,14 @@ IsPlain (Object e) = ⊥
 IsPlain refusal = Unit {0}
 
 -- a refusal of the reader of packages
-abbrev pub IsReaders : Refusal → Type 0
-IsReaders (Syntax n) = Unit {0}
-IsReaders (Limit which n) = Unit {0}
-IsReaders (Duplicate n) = Unit {0}
-IsReaders (Undefined name) = Unit {0}
-IsReaders (FormFault func kind place) = Unit {0}
-IsReaders Memory = Unit {0}
-IsReaders refusal = ⊥
+abbrev pub IsReaders : List ℕ → Target → Refusal → Type 0
+IsReaders text target (Syntax n) = ReadsAs text target (Err (why.Syntax n))
+IsReaders text target (Limit which n) = ReadsAs text target (Err (why.Limit which n))
+IsReaders text target (Duplicate n) = ReadsAs text target (Err (why.Duplicate n))
+IsReaders text target (Undefined name) = ReadsAs text target (Err (why.Undefined name))
+IsReaders text target (FormFault func kind place) = ReadsAs text target (Err (why.FormFault func kind place))
+IsReaders text target Memory = Unit {0}
+IsReaders text target refusal = ⊥
 
 -- a refusal to read an input of at most so many bytes
 abbrev pub IsReading : ℕ → Option (List ℕ) → ℕ → ℕ → Refusal → Type 0
@@ -239,3 +255,12 @@ abbrev pub IsLoading : List ℕ → Refusal → Type 0
 IsLoading object (Object e) = loaded object ≡ Err e
 IsLoading object Memory = Unit {0}
 IsLoading object refusal = ⊥
+
+-- a refusal tells the reader's answer
+abbrev pub StandsFor : Refusal → DumpError → Type 0
+StandsFor refusal (why.Syntax n) = refusal ≡ Syntax n
+StandsFor refusal (why.Limit which n) = refusal ≡ Limit which n
+StandsFor refusal (why.Duplicate n) = refusal ≡ Duplicate n
+StandsFor refusal (why.Undefined name) = refusal ≡ Undefined name
+StandsFor refusal (why.FormFault func kind place) = refusal ≡ FormFault func kind place
+StandsFor refusal why.Memory = refusal ≡ Memory

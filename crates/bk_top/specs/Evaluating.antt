@@ -1,19 +1,20 @@
 -- What `eval` tells: how a call of a function of a package ends.
-use Rattle.std.specs.Prelude.{◌≡◌, ℕ, ◌+◌, ◌-◌, ◌%◌, List, [], ◌∷◌, ◌++◌, length, take, replicate, slice_get, Some, None}
+use Rattle.std.specs.Prelude.{◌≡◌, ℕ, ◌+◌, ◌-◌, ◌%◌, List, [], ◌∷◌, ◌++◌, length, take, replicate, slice_get, Some, None, Ok}
 use Rattle.bk_ops.specs.declared.types.Target.{Target}
 use Rattle.bk_func.specs.Records.{SigRecord, FuncRecord, VarRecord, PackageRecord}
-use Rattle.bk_mean.specs.declared.Outcome.{Outcome}
-use Rattle.bk_mean.specs.declared.Outcome.TheVariants.{Returned, Trapped, Going, Wild}
-use Rattle.bk_mean.specs.Eval.{function_named}
+use Rattle.bk_func.specs.Meaning as mean
+use Rattle.bk_mean.specs.Eval.{function_named, program}
 use Rattle.bk_top.specs.Commands.{CallRecord}
-use Rattle.bk_top.specs.Arguments.{Gives, DoNotFit}
+use Rattle.bk_top.specs.Arguments.{own_stack, Gives, DoNotFit}
+use Rattle.bk_top.specs.Package.{ReadsAs}
 use Rattle.bk_top.specs.Outcomes.{OutcomeRecord, returned, trapped, going, wild, outcome_line}
 
-abbrev pub seen_end : Outcome → OutcomeRecord
-seen_end (Returned numbers) = returned numbers.items
-seen_end (Trapped number) = trapped number
-seen_end Going = going
-seen_end (Wild address) = wild address
+-- the outcome of a run, as it is told
+abbrev pub told_outcome : mean.Outcome → OutcomeRecord
+told_outcome (mean.returned numbers) = returned numbers
+told_outcome (mean.trapped number) = trapped number
+told_outcome (mean.wild address) = wild address
+told_outcome mean.going = going
 
 -- a length up to the next multiple of 8
 abbrev pub rounded : ℕ → ℕ
@@ -28,26 +29,35 @@ unfoldable pub window_of : List VarRecord → List ℕ
 window_of [] = []
 window_of (v ∷ vs) = filled (rounded v.size) v.bytes ++ window_of vs
 
--- the line of an outcome, and the data window then, of a function of this signature
-abbrev pub IsEnd : Target → SigRecord → List ℕ → Type 0
-IsEnd target sig line = (outcome : OutcomeRecord) × (window : List ℕ) × (line ≡ outcome_line target sig.results outcome window)
+-- how a call of the function at a place ends by the meaning of SSA: on the package's own data, with frames of 16 bytes
+abbrev pub ending : PackageRecord → Target → ℕ → List ℕ → ℕ → mean.Outcome × List ℕ
+ending p target place args bound = mean.meaning (program p target (replicate (length p.funcs) 16)) place args (window_of p.vars) own_stack bound
 
--- The line of the call of a function of the package that was read.
-pub record Evaluates (target : Target) (call : CallRecord) (line : List ℕ) : Type 0 where
+-- an outcome and a data window, as they are told
+abbrev pub told : mean.Outcome × List ℕ → OutcomeRecord × List ℕ
+told end = (told_outcome end.0, end.1)
+
+-- the line of an outcome, and the data window then, of a function of this signature
+abbrev pub line_of : Target → SigRecord → OutcomeRecord × List ℕ → List ℕ
+line_of target sig end = outcome_line target sig.results end.0 end.1
+
+-- The line of the call of a function of the package that the text reads as.
+pub record Evaluates (target : Target) (call : CallRecord) (text line : List ℕ) : Type 0 where
   pub pkg : PackageRecord
+  pub reads : ReadsAs text target (Ok pkg)
   pub place : ℕ
   pub func : FuncRecord
   pub named : function_named pkg call.name ≡ Some place
   pub found : slice_get pkg.funcs place ≡ Some func
   pub args : List ℕ
   pub given : Gives target func.sig.args call.args args
-  pub told : IsEnd target func.sig line
+  pub tells : line ≡ line_of target func.sig (told (ending pkg target place args call.bound))
 
--- no function of the package that was read has the name
-abbrev pub LacksNamed : CallRecord → Type 0
-LacksNamed call = (p : PackageRecord) × (function_named p call.name ≡ None)
+-- no function of the package that the text reads as has the name
+abbrev pub LacksNamed : Target → CallRecord → List ℕ → Type 0
+LacksNamed target call text = (p : PackageRecord) × ReadsAs text target (Ok p) × (function_named p call.name ≡ None)
 
 -- the words give no numbers for the arguments of the package's function
-abbrev pub MisfitsNamed : Target → CallRecord → Type 0
-MisfitsNamed target call =
-    (p : PackageRecord) × (place : ℕ) × (f : FuncRecord) × (function_named p call.name ≡ Some place) × (slice_get p.funcs place ≡ Some f) × DoNotFit target f.sig.args call.args
+abbrev pub MisfitsNamed : Target → CallRecord → List ℕ → Type 0
+MisfitsNamed target call text =
+    (p : PackageRecord) × ReadsAs text target (Ok p) × (place : ℕ) × (f : FuncRecord) × (function_named p call.name ≡ Some place) × (slice_get p.funcs place ≡ Some f) × DoNotFit target f.sig.args call.args

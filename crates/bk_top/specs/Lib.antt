@@ -7,6 +7,7 @@ pub mod Commands
 pub mod Arguments
 pub mod Outcomes
 pub mod Running
+pub mod Package
 pub mod Evaluating
 pub mod Listing
 pub mod Refusals

@@ -16,6 +16,3 @@ mod tell;
 mod text;
 
 pub use program::backend;
-
-#[cfg(test)]
-mod tests;

@@ -1,13 +1,12 @@
-//! Lines that open and end a block.
-ghost use Rattle.std.specs.Prelude.{◌≡◌, ◌≤◌, ◌<◌, length, IfSome};
+//! Lines that open a block.
+ghost use Rattle.std.specs.Prelude.{◌≡◌, codes, IfOk};
+ghost use Rattle.std.specs.Option.{option_map};
+ghost use Rattle.bk_dump.specs.Blocks.{some_preds_at, preds_at, label_at, block_at};
 
-use crate::read::name::word;
-use crate::read::number::numbered;
-use crate::read::part::{
-    behind, behind_arrow, behind_back_arrow, behind_blanks, group, is_end, skip_blanks,
-};
-use bk_func::{Kind, Likely};
+use crate::read::number::{numbered, numbers};
+use crate::read::part::{behind, behind_back_arrow, is_done, skip_blanks};
 use std::alloc::{AllocError, Global};
+use std::marker::Model;
 
 /// The line `bN:` or `bN: <- bI bJ`.
 #[derive(Drop)]
@@ -16,141 +15,60 @@ pub struct BlockLine {
     pub preds: Vec<u32>,
 }
 
+impl Model for BlockLine {
+    ghost use Rattle.bk_dump.specs.Trees.{LabelTree};
+
+    ghost Value = { LabelTree };
+
+    ghost view = { λ b. record { id = b.id; preds = b.preds.items } };
+}
+
+/// The blocks behind a `<-`, at least one, to the end of the line.
+#[tactic(auto, unfolding(crate::specs::Blocks::some_preds_at))]
+fn some_preds(alloc: Global, text: &[u8]) -> Result<Option<Vec<u32>>, AllocError>
+    ensures { IfOk result (λ read. option_map (λ ps. ps.items) read ≡ some_preds_at text.now) }
+{
+    let Some(rest) = behind_back_arrow(text) else {
+        return Ok(None);
+    };
+    let (preds, rest) = numbers(alloc, rest, b"b")?;
+    if preds.is_empty() || !is_done(rest) {
+        return Ok(None);
+    }
+    Ok(Some(preds))
+}
+
+/// The predecessors, where there are any, to the end of the line.
+#[tactic(auto, unfolding(crate::specs::Blocks::preds_at))]
+fn preds(alloc: Global, text: &[u8]) -> Result<Option<Vec<u32>>, AllocError>
+    ensures { IfOk result (λ read. option_map (λ ps. ps.items) read ≡ preds_at text.now) }
+{
+    if is_done(text) {
+        Ok(Some(Vec::new(alloc)))
+    } else {
+        some_preds(alloc, text)
+    }
+}
+
+/// The number of a block before a `:`, and the text behind that.
+#[tactic(auto, unfolding(crate::specs::Blocks::label_at))]
+fn label(line: &[u8]) -> Option<(u32, &[u8])>
+    ensures { option_map (λ x. (x.0, x.1.now)) result ≡ label_at line.now }
+{
+    let (id, rest) = numbered(skip_blanks(line), b"b")?;
+    Some((id, behind(rest, b":")?))
+}
+
 /// Reads the line that opens a block.
-pub fn block_line(alloc: Global, line: &[u8]) -> Result<Option<BlockLine>, AllocError> {
-    let Some((id, rest)) = numbered(skip_blanks(line), b"b") else {
+#[tactic(auto, unfolding(crate::specs::Blocks::block_at))]
+pub fn block_line(alloc: Global, line: &[u8]) -> Result<Option<BlockLine>, AllocError>
+    ensures { IfOk result (λ read. read ≡ block_at line.now) }
+{
+    let Some((id, rest)) = label(line) else {
         return Ok(None);
     };
-    let Some(rest) = behind(rest, b":") else {
+    let Some(preds) = preds(alloc, rest)? else {
         return Ok(None);
     };
-    if is_end(rest) {
-        return Ok(Some(BlockLine {
-            id,
-            preds: Vec::new(alloc),
-        }));
-    }
-    let Some(rest) = behind_back_arrow(rest) else {
-        return Ok(None);
-    };
-    let (preds, rest) = blocks(alloc, rest)?;
-    Ok(if preds.is_empty() || !is_end(rest) {
-        None
-    } else {
-        Some(BlockLine { id, preds })
-    })
-}
-
-/// The numbers of blocks with blanks between them, and the text behind them.
-fn blocks(alloc: Global, text: &[u8]) -> Result<(Vec<u32>, &[u8]), AllocError> {
-    let mut numbers = Vec::new(alloc);
-    let mut rest = skip_blanks(text);
-    while let Some((number, next)) = numbered(rest, b"b") {
-        numbers.push(number)?;
-        match behind_blanks(next) {
-            Some(text) => rest = text,
-            None => return Ok((numbers, next)),
-        }
-    }
-    Ok((numbers, rest))
-}
-
-/// A line that ends a block.
-#[derive(Drop)]
-pub struct EndLine {
-    pub kind: Kind,
-    pub control: Option<u32>,
-    pub succs: Vec<u32>,
-    pub likely: Likely,
-}
-
-/// The kind of block whose end this word writes.
-fn kind_of(word: &[u8]) -> Option<Kind> {
-    match word {
-        b"Plain" => Some(Kind::Plain),
-        b"If" => Some(Kind::If),
-        b"First" => Some(Kind::First),
-        b"Ret" => Some(Kind::Ret),
-        b"Exit" => Some(Kind::Exit),
-        _ => None,
-    }
-}
-
-/// How many blocks stand behind the arrow at the end of a block of this kind.
-fn succ_count(kind: Kind) -> usize {
-    match kind {
-        Kind::Plain => 1,
-        Kind::If | Kind::First => 2,
-        Kind::Ret | Kind::Exit => 0,
-    }
-}
-
-/// The control that stands behind the kind, where the kind has one, and the text behind it.
-fn control(kind: Kind, text: &[u8]) -> Option<(Option<u32>, &[u8])> {
-    match kind {
-        Kind::Plain | Kind::First => Some((None, text)),
-        Kind::If | Kind::Ret | Kind::Exit => {
-            let (number, rest) = numbered(behind_blanks(text)?, b"v")?;
-            Some((Some(number), rest))
-        }
-    }
-}
-
-/// The text behind the arrow that stands before the successors, where the kind has some.
-fn behind_own_arrow(kind: Kind, text: &[u8]) -> Option<&[u8]> {
-    match kind {
-        Kind::Plain | Kind::If | Kind::First => behind_arrow(text),
-        Kind::Ret | Kind::Exit => Some(text),
-    }
-}
-
-/// The kind and the control of a block that ends here, and the text where its successors stand.
-fn kind_part(line: &[u8]) -> Option<(Kind, Option<u32>, &[u8])> {
-    let (word, rest) = word(line);
-    let kind = kind_of(word)?;
-    let (control, rest) = control(kind, rest)?;
-    Some((kind, control, behind_own_arrow(kind, rest)?))
-}
-
-/// Reads the line that ends a block.
-pub fn end_line(alloc: Global, line: &[u8]) -> Result<Option<EndLine>, AllocError> {
-    let Some((kind, control, rest)) = kind_part(line) else {
-        return Ok(None);
-    };
-    let (succs, rest) = if succ_count(kind) == 0 {
-        (Vec::new(alloc), rest)
-    } else {
-        blocks(alloc, rest)?
-    };
-    let Some(likely) = groups(rest) else {
-        return Ok(None);
-    };
-    if succs.len() != succ_count(kind) {
-        return Ok(None);
-    }
-    let likely = match kind {
-        Kind::If => likely,
-        _ => Likely::No,
-    };
-    Ok(Some(EndLine {
-        kind,
-        control,
-        succs,
-        likely,
-    }))
-}
-
-/// The successor that the last of the groups `(likely)` and `(unlikely)` marks, where nothing but groups is left.
-pub fn groups(text: &[u8]) -> Option<Likely> {
-    let mut likely = Likely::No;
-    let mut rest = text;
-    while let Some((inside, next)) = group(rest) {
-        likely = match inside {
-            b"likely" => Likely::First,
-            b"unlikely" => Likely::Second,
-            _ => likely,
-        };
-        rest = next;
-    }
-    if is_end(rest) { Some(likely) } else { None }
+    Ok(Some(BlockLine { id, preds }))
 }

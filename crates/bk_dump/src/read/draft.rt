@@ -1,160 +1,83 @@
 //! A function while its text is read: what its lines declare, and the names that they mention.
-ghost use Rattle.std.specs.Prelude.{◌≤◌, ◌<◌};
+ghost use Rattle.std.specs.Prelude.{◌≡◌, IfOk};
+ghost use Rattle.std.specs.Option.{option_map};
+ghost use Rattle.bk_func.specs.declared.parts.Kind.TheVariants as kind;
 
-use crate::read::block::{BlockLine, EndLine};
-use crate::read::declaration::Parameter;
-use crate::read::errors::{Fault, Which};
-use crate::read::value::{Mention, ValueLine};
-use bk_func::{Aux, Block, Func, Kind, Likely, Sig, Value};
-use bk_ops::Ty;
+use crate::read::block::BlockLine;
+use crate::read::end::EndLine;
+use crate::read::value::ValueLine;
+use bk_func::Sig;
 use indexmap::IndexSet;
-use std::alloc::{AllocError, Global};
-use std::collections::HashSet;
+use std::marker::Model;
 
-const MAX_VALUES: u32 = 16_384;
-
-const MAX_BLOCKS: usize = 4_096;
-
-/// A function whose references are not looked up yet. Of a value that mentions a name the aux is Nothing.
+/// A block whose end is not read yet.
 #[derive(Drop)]
-pub(crate) struct Draft<'a> {
-    pub func: Func,
+pub struct OpenBlock<'a> {
+    pub label: BlockLine,
+    pub values: Vec<ValueLine<'a>>,
+}
+
+impl<'a> Model for OpenBlock<'a> {
+    ghost use Rattle.bk_dump.specs.Trees.{OpenTree};
+
+    ghost Value = { OpenTree };
+
+    ghost view = { λ b. record { label = b.label; values = b.values.items } };
+}
+
+/// A block whose references are not looked up yet.
+#[derive(Drop)]
+pub struct BlockDraft<'a> {
+    pub label: BlockLine,
+    pub values: Vec<ValueLine<'a>>,
+    pub end: EndLine,
+}
+
+impl<'a> Model for BlockDraft<'a> {
+    ghost use Rattle.bk_dump.specs.Trees.{BlockTree};
+
+    ghost Value = { BlockTree };
+
+    ghost view = { λ b. record { label = b.label; values = b.values.items; end = b.end } };
+}
+
+/// A function whose references are not looked up yet.
+#[derive(Drop)]
+pub struct FuncDraft<'a> {
+    /// The number of its name.
+    pub name: u32,
     /// The names of its arguments, in order.
     pub parameters: IndexSet<&'a str>,
-    /// The names that its values mention, in text order.
-    pub mentions: Vec<&'a str>,
-    /// The numbers of its values.
-    pub values: HashSet<u32>,
-    /// The numbers of its blocks.
-    pub blocks: HashSet<u32>,
+    pub sig: Sig,
+    pub blocks: Vec<BlockDraft<'a>>,
+    /// The numbers of its values, and those of its blocks, also of a block that is not whole yet.
+    pub value_ids: IndexSet<u32>,
+    pub block_ids: IndexSet<u32>,
 }
 
-/// Whether values and blocks may have this number.
-fn is_number(number: u32) -> bool {
-    1 <= number && number <= 2_147_483_647
+impl<'a> Model for FuncDraft<'a> {
+    ghost use Rattle.std.specs.Prelude.{map};
+    ghost use Rattle.bk_dump.specs.Trees.{FuncTree};
+
+    ghost Value = { FuncTree };
+
+    ghost view = { λ f. record {
+      name = f.name;
+      parameters = map (λ n. n.now) f.parameters.keys;
+      sig = f.sig;
+      blocks = f.blocks.items;
+      value_ids = f.value_ids.keys;
+      block_ids = f.block_ids.keys;
+    } };
 }
 
-/// The names of the parameters, each declared once, and their types.
-fn declared<'a>(
-    alloc: Global,
-    parameters: &[Parameter<'a>],
-) -> Result<(IndexSet<&'a str>, Vec<Ty>), Fault> {
-    let mut names = IndexSet::new(alloc);
-    let mut types = Vec::with_capacity(alloc, parameters.len())?;
-    for parameter in parameters {
-        if !names.insert(parameter.name)? {
-            return Err(Fault::Duplicate);
-        }
-        types.push(parameter.ty)?;
-    }
-    Ok((names, types))
-}
-
-impl<'a> Draft<'a> {
-    /// The function of this name number, without blocks.
-    pub fn new(
-        alloc: Global,
-        name: u32,
-        parameters: &[Parameter<'a>],
-        results: Vec<Ty>,
-    ) -> Result<Self, Fault> {
-        let (parameters, args) = declared(alloc, parameters)?;
-        let sig = Sig { args, results };
-        Ok(Draft {
-            func: Func {
-                name,
-                sig,
-                blocks: Vec::new(alloc),
-                given: 0,
-            },
-            parameters,
-            mentions: Vec::new(alloc),
-            values: HashSet::new(alloc),
-            blocks: HashSet::new(alloc),
-        })
-    }
-
-    /// Opens a block.
-    pub fn open_block(&mut self, alloc: Global, line: BlockLine) -> Result<(), Fault> {
-        let BlockLine { id, preds } = line;
-        if self.func.blocks.len() >= MAX_BLOCKS {
-            return Err(Fault::Limit(Which::Blocks));
-        }
-        if !is_number(id) || !preds.iter().all(|pred| is_number(*pred)) {
-            return Err(Fault::Limit(Which::Numbers));
-        }
-        if !self.blocks.insert(id)? {
-            return Err(Fault::Duplicate);
-        }
-        self.func.blocks.push(Block {
-            id,
-            kind: Kind::Plain,
-            control: None,
-            preds,
-            succs: Vec::new(alloc),
-            likely: Likely::No,
-            values: Vec::new(alloc),
-        })?;
-        Ok(())
-    }
-
-    /// Adds a value to the open block.
-    pub fn add_value(&mut self, line: ValueLine<'a>) -> Result<(), Fault> {
-        let ValueLine {
-            id,
-            op,
-            ty,
-            beside,
-            args,
-        } = line;
-        if self.func.given >= MAX_VALUES {
-            return Err(Fault::Limit(Which::Values));
-        }
-        if !is_number(id) || !args.as_slice().iter().all(|arg| is_number(*arg)) {
-            return Err(Fault::Limit(Which::Numbers));
-        }
-        if !self.values.insert(id)? {
-            return Err(Fault::Duplicate);
-        }
-        let aux = match beside.mention {
-            Mention::Type(ty) => Aux::Ty(ty),
-            Mention::Nothing => Aux::Nothing,
-            Mention::Name(name) => {
-                self.mentions.push(name)?;
-                Aux::Nothing
-            }
-        };
-        self.func.given += 1;
-        if let Some(block) = self.func.blocks.last_mut() {
-            block.values.push(Value {
-                id,
-                op,
-                ty,
-                args,
-                int: beside.int,
-                aux,
-            })?;
-        }
-        Ok(())
-    }
-
-    /// Ends the open block.
-    pub fn end_block(&mut self, line: EndLine) -> Result<(), Fault> {
-        let EndLine {
-            kind,
-            control,
-            succs,
-            likely,
-        } = line;
-        if !succs.iter().all(|succ| is_number(*succ)) || !control.map_or(true, is_number) {
-            return Err(Fault::Limit(Which::Numbers));
-        }
-        if let Some(block) = self.func.blocks.last_mut() {
-            block.kind = kind;
-            block.control = control;
-            block.succs = succs;
-            block.likely = likely;
-        }
-        Ok(())
-    }
+/// Which line may come next.
+#[derive(Drop)]
+pub enum Stage<'a> {
+    /// A declaration: no function is open.
+    Between,
+    /// A block of the open function, or, where it has one, a declaration.
+    Function(FuncDraft<'a>),
+    /// A value or the end of the open block.
+    Block(FuncDraft<'a>, OpenBlock<'a>),
 }

@@ -1,4 +1,6 @@
 //! Why a text is refused.
+ghost use Rattle.std.specs.Prelude.{◌≡◌};
+
 use bk_form::{FormKind, Place};
 use std::alloc::{AllocError, AllocFailed};
 
@@ -51,12 +53,22 @@ pub enum DumpError {
 }
 
 impl From<AllocError> for DumpError {
+    ghost use Rattle.std.specs.Prelude.{◌≡◌};
+    ghost use Rattle.bk_dump.specs.declared.read.errors.DumpError.TheVariants.{Memory};
+
+    ghost from_gives = { λ _ e. e ≡ Memory };
+
     fn from(_error: AllocError) -> Self {
         DumpError::Memory
     }
 }
 
 impl<T: Drop> From<AllocFailed<T>> for DumpError {
+    ghost use Rattle.std.specs.Prelude.{◌≡◌};
+    ghost use Rattle.bk_dump.specs.declared.read.errors.DumpError.TheVariants.{Memory};
+
+    ghost from_gives = { λ _ e. e ≡ Memory };
+
     fn from(_refused: AllocFailed<T>) -> Self {
         DumpError::Memory
     }
@@ -68,29 +80,74 @@ pub(crate) enum Fault {
     Syntax,
     Limit(Which),
     Duplicate,
+}
+
+/// Why a line was not read.
+#[derive(Clone, Copy, PartialEq, Eq, Debug)]
+pub(crate) enum LineError {
+    Fault(Fault),
     Memory,
 }
 
-impl Fault {
-    /// The refusal of the line of this number.
-    pub(crate) fn at(self, line: u64) -> DumpError {
-        match self {
-            Fault::Syntax => DumpError::Syntax { line },
-            Fault::Limit(which) => DumpError::Limit { which, line },
-            Fault::Duplicate => DumpError::Duplicate { line },
-            Fault::Memory => DumpError::Memory,
-        }
+impl From<Fault> for LineError {
+    ghost use Rattle.std.specs.Prelude.{◌≡◌};
+    ghost use Rattle.bk_dump.specs.declared.read.errors.LineError.TheVariants as line_error;
+
+    ghost from_gives = { λ f e. e ≡ line_error.Fault f };
+
+    fn from(fault: Fault) -> Self {
+        LineError::Fault(fault)
     }
 }
 
-impl From<AllocError> for Fault {
+impl From<AllocError> for LineError {
+    ghost use Rattle.std.specs.Prelude.{◌≡◌};
+    ghost use Rattle.bk_dump.specs.declared.read.errors.LineError.TheVariants.{Memory};
+
+    ghost from_gives = { λ _ e. e ≡ Memory };
+
     fn from(_error: AllocError) -> Self {
-        Fault::Memory
+        LineError::Memory
     }
 }
 
-impl<T: Drop> From<AllocFailed<T>> for Fault {
+impl<T: Drop> From<AllocFailed<T>> for LineError {
+    ghost use Rattle.std.specs.Prelude.{◌≡◌};
+    ghost use Rattle.bk_dump.specs.declared.read.errors.LineError.TheVariants.{Memory};
+
+    ghost from_gives = { λ _ e. e ≡ Memory };
+
     fn from(_refused: AllocFailed<T>) -> Self {
-        Fault::Memory
+        LineError::Memory
+    }
+}
+
+/// Why references were not looked up.
+#[derive(Drop, Debug)]
+pub(crate) enum ReferenceError {
+    /// What the first reference that names nothing says.
+    Undefined(String),
+    Memory,
+}
+
+impl From<AllocError> for ReferenceError {
+    ghost use Rattle.std.specs.Prelude.{◌≡◌};
+    ghost use Rattle.bk_dump.specs.declared.read.errors.ReferenceError.TheVariants.{Memory};
+
+    ghost from_gives = { λ _ e. e ≡ Memory };
+
+    fn from(_error: AllocError) -> Self {
+        ReferenceError::Memory
+    }
+}
+
+impl<T: Drop> From<AllocFailed<T>> for ReferenceError {
+    ghost use Rattle.std.specs.Prelude.{◌≡◌};
+    ghost use Rattle.bk_dump.specs.declared.read.errors.ReferenceError.TheVariants.{Memory};
+
+    ghost from_gives = { λ _ e. e ≡ Memory };
+
+    fn from(_refused: AllocFailed<T>) -> Self {
+        ReferenceError::Memory
     }
 }

@@ -1,200 +1,199 @@
 //! The reader of a text's lines, one after the other.
-ghost use Rattle.std.specs.Prelude.{◌≡◌, ◌≤◌, ◌<◌, ◌+◌, vec_len};
-ghost use Rattle.indexmap.specs.IndexSet.{index_set_len};
+ghost use Rattle.std.specs.Prelude.{◌≡◌, ◌≤◌, ◌<◌, ◌+◌, Ok, IfOk, OnOk, map, vec_len};
+ghost use Rattle.std.specs.Option.{option_map};
+ghost use Rattle.bk_dump.specs.Drafts.{State, entered, has_block, has_control, at_start, add_value, end_block, read_inside, declare, closed, open_block, read_behind, read_line, finished_function, finished};
+ghost use Rattle.bk_dump.specs.Views.{state, Steps};
 
-use crate::read::block::{block_line, end_line};
-use crate::read::declaration::{FuncLine, VarLine, func_line, var_line};
-use crate::read::draft::Draft;
-use crate::read::errors::{Fault, Which};
-use crate::read::value::value_line;
-use bk_func::Var;
+use crate::read::block::{BlockLine, block_line};
+use crate::read::declare::declare;
+use crate::read::draft::{BlockDraft, FuncDraft, OpenBlock, Stage};
+use crate::read::end::{EndLine, end_line};
+use crate::read::errors::{Fault, LineError};
+use crate::read::faults::{block_fault, end_fault, value_fault};
+use crate::read::sets::add_number;
+use crate::read::state::Reader;
+use crate::read::value::{ValueLine, value_line};
 use indexmap::IndexSet;
 use std::alloc::{AllocError, Global};
+use std::mem;
 
-const MAX_FUNCTIONS: usize = 4_096;
-
-const MAX_VARIABLES: usize = 4_096;
-
-const MAX_SIGNATURE: usize = 64;
-
-const MAX_WINDOW: u32 = 1_048_576;
-
-/// The callee that traps for a division by zero.
-pub(crate) const PANIC_DIVIDE: &str = "runtime.panicdivide";
-/// The callee that traps for a shift by a negative count.
-pub(crate) const PANIC_SHIFT: &str = "runtime.panicshift";
-
-/// Which line may come next.
-#[derive(Clone, Copy, PartialEq, Eq)]
-enum Stage {
-    /// A declaration: no function is open.
-    Between,
-    /// The first block of a function.
-    Opened,
-    /// A value or the end of the open block.
-    Inside,
-    /// A block or a declaration: a block has ended.
-    Ended,
-}
-
-/// What the lines so far declare.
-#[derive(Drop)]
-pub(crate) struct Reader<'a> {
-    /// The names of functions and variables, in text order.
-    pub names: IndexSet<&'a str>,
-    pub drafts: Vec<Draft<'a>>,
-    pub vars: Vec<Var>,
-    /// The end of the data window, a multiple of 8.
-    window: u32,
-    stage: Stage,
-    ghost within: { window ≤ 1048576 },
-    ghost few_functions: { vec_len drafts ≤ 4096 },
-    ghost few_variables: { vec_len vars ≤ 4096 },
-    ghost few_names: { index_set_len names ≤ vec_len drafts + vec_len vars },
-}
-
-/// The value of a hexadecimal digit.
-fn digit_value(digit: u8) -> u8
-    ensures { result < 16 }
+/// Whether the line has a byte that no line may hold.
+fn has_control(line: &[u8]) -> bool
+    ensures { result ≡ has_control line.now }
 {
-    match digit {
-        b'0'..=b'9' => digit - b'0',
-        b'a'..=b'f' => digit - b'a' + 10,
-        b'A'..=b'F' => digit - b'A' + 10,
-        _ => 0,
-    }
+    line.iter().any(|byte| *byte < b' ' && *byte != b'\t')
 }
 
-/// A variable's bytes: those that the pairs of digits give, then zeros.
-fn bytes_of(alloc: Global, hex: &[u8], size: usize) -> Result<Vec<u8>, AllocError> {
-    let mut bytes = Vec::with_capacity(alloc, size)?;
-    for pair in hex.chunks(2) {
-        if let [high, low] = pair {
-            bytes.push(digit_value(*high) * 16 + digit_value(*low))?;
-        }
-    }
-    bytes.resize(size, 0)?;
-    Ok(bytes)
+/// Whether the function has a block.
+fn has_block(func: &FuncDraft) -> bool
+    ensures { result ≡ has_block func.now }
+{
+    !func.blocks.is_empty()
 }
 
 impl<'a> Reader<'a> {
     /// The reader before the first line.
-    pub fn new(alloc: Global) -> Self {
+    pub fn new(alloc: Global) -> Self
+        ensures { state result ≡ at_start }
+    {
         Reader {
             names: IndexSet::new(alloc),
-            drafts: Vec::new(alloc),
+            funcs: Vec::new(alloc),
             vars: Vec::new(alloc),
             window: 0,
             stage: Stage::Between,
         }
     }
 
-    /// Whether the text may end here.
-    pub fn may_end(&self) -> bool {
-        self.stage == Stage::Between || self.stage == Stage::Ended
+    /// Goes on to this stage.
+    pub fn enter(&mut self, stage: Stage<'a>)
+        ensures { state self.new ≡ entered (state self.old) stage.entry }
+    {
+        self.stage = stage;
     }
 
-    /// Reads the next line.
-    pub fn read(&mut self, alloc: Global, line: &'a [u8]) -> Result<(), Fault> {
-        if line.iter().any(|byte| *byte < b' ' && *byte != b'\t') {
-            return Err(Fault::Syntax);
+    /// Adds a value to the open block.
+    fn add_value(
+        &mut self,
+        func: FuncDraft<'a>,
+        block: OpenBlock<'a>,
+        line: ValueLine<'a>,
+    ) -> Result<(), LineError>
+        ensures { Steps result (add_value (state self.old) func.entry block.entry line.entry) (state self.new) }
+    {
+        let mut func = func;
+        let mut block = block;
+        if let Some(fault) = value_fault(&func, &line) {
+            return Err(LineError::Fault(fault));
         }
-        match self.stage {
-            Stage::Between => self.declare(alloc, line),
-            Stage::Opened => self.open_block(alloc, line),
-            Stage::Inside => self.read_inside(alloc, line),
-            Stage::Ended => match self.open_block(alloc, line) {
-                Err(Fault::Syntax) => self.declare(alloc, line),
-                read => read,
-            },
-        }
-    }
-
-    /// Reads a line that declares a variable or a function.
-    fn declare(&mut self, alloc: Global, line: &'a [u8]) -> Result<(), Fault> {
-        if let Some(found) = var_line(line) {
-            return self.declare_var(alloc, found);
-        }
-        match func_line(alloc, line)? {
-            Some(found) => self.declare_func(alloc, found),
-            None => Err(Fault::Syntax),
-        }
-    }
-
-    /// Whether a name may not be declared any more.
-    fn is_taken(&self, name: &'a str) -> bool {
-        name == PANIC_DIVIDE || name == PANIC_SHIFT || self.names.contains(name)
-    }
-
-    fn declare_var(&mut self, alloc: Global, line: VarLine<'a>) -> Result<(), Fault> {
-        if self.vars.len() >= MAX_VARIABLES {
-            return Err(Fault::Limit(Which::Variables));
-        }
-        let size = match u32::try_from(line.size) {
-            Ok(size) if size <= MAX_WINDOW - self.window => size,
-            _ => return Err(Fault::Limit(Which::Window)),
-        };
-        if self.is_taken(line.name) {
-            return Err(Fault::Duplicate);
-        }
-        let bytes = bytes_of(alloc, line.hex, size as usize)?;
-        let name = self.names.len() as u32;
-        self.vars.push(Var { name, size, bytes })?;
-        self.names.insert(line.name)?;
-        self.window = (self.window + size).div_ceil(8) * 8;
-        self.stage = Stage::Between;
+        add_number(&mut func.value_ids, line.id)?;
+        block.values.push(line)?;
+        self.enter(Stage::Block(func, block));
         Ok(())
     }
 
-    fn declare_func(&mut self, alloc: Global, line: FuncLine<'a>) -> Result<(), Fault> {
-        let FuncLine {
-            name,
-            parameters,
-            results,
-        } = line;
-        if self.drafts.len() >= MAX_FUNCTIONS {
-            return Err(Fault::Limit(Which::Functions));
+    /// Ends the open block.
+    fn end_block(
+        &mut self,
+        func: FuncDraft<'a>,
+        block: OpenBlock<'a>,
+        end: EndLine,
+    ) -> Result<(), LineError>
+        ensures { Steps result (end_block (state self.old) func.entry block.entry end) (state self.new) }
+    {
+        if let Some(fault) = end_fault(&end) {
+            return Err(LineError::Fault(fault));
         }
-        if parameters.len() > MAX_SIGNATURE || results.len() > MAX_SIGNATURE - parameters.len() {
-            return Err(Fault::Limit(Which::Signature));
-        }
-        if self.is_taken(name) {
-            return Err(Fault::Duplicate);
-        }
-        let draft = Draft::new(alloc, self.names.len() as u32, &parameters, results)?;
-        self.drafts.push(draft)?;
-        self.names.insert(name)?;
-        self.stage = Stage::Opened;
-        Ok(())
-    }
-
-    /// Reads a line that opens a block.
-    fn open_block(&mut self, alloc: Global, line: &[u8]) -> Result<(), Fault> {
-        let Some(found) = block_line(alloc, line)? else {
-            return Err(Fault::Syntax);
-        };
-        if let Some(draft) = self.drafts.last_mut() {
-            draft.open_block(alloc, found)?;
-        }
-        self.stage = Stage::Inside;
+        let mut func = func;
+        let OpenBlock { label, values } = block;
+        func.blocks.push(BlockDraft { label, values, end })?;
+        self.enter(Stage::Function(func));
         Ok(())
     }
 
     /// Reads a value's line, or the line that ends the open block.
-    fn read_inside(&mut self, alloc: Global, line: &'a [u8]) -> Result<(), Fault> {
+    #[tactic(auto, unfolding(crate::specs::Drafts::read_inside))]
+    fn read_inside(
+        &mut self,
+        alloc: Global,
+        func: FuncDraft<'a>,
+        block: OpenBlock<'a>,
+        line: &'a [u8],
+    ) -> Result<(), LineError>
+        ensures { Steps result (read_inside (state self.old) func.entry block.entry line.now) (state self.new) }
+    {
         if let Some(found) = value_line(alloc, line)? {
-            if let Some(draft) = self.drafts.last_mut() {
-                draft.add_value(found)?;
-            }
-            return Ok(());
+            return self.add_value(func, block, found);
         }
-        let Some(found) = end_line(alloc, line)? else {
-            return Err(Fault::Syntax);
-        };
-        if let Some(draft) = self.drafts.last_mut() {
-            draft.end_block(found)?;
+        match end_line(alloc, line)? {
+            Some(found) => self.end_block(func, block, found),
+            None => Err(LineError::Fault(Fault::Syntax)),
         }
-        self.stage = Stage::Ended;
+    }
+
+    /// Opens a block.
+    fn open_block(
+        &mut self,
+        alloc: Global,
+        func: FuncDraft<'a>,
+        label: BlockLine,
+    ) -> Result<(), LineError>
+        ensures { Steps result (open_block (state self.old) func.entry label) (state self.new) }
+    {
+        if let Some(fault) = block_fault(&func, &label) {
+            return Err(LineError::Fault(fault));
+        }
+        let mut func = func;
+        add_number(&mut func.block_ids, label.id)?;
+        let values = Vec::new(alloc);
+        self.enter(Stage::Block(func, OpenBlock { label, values }));
         Ok(())
+    }
+
+    /// Finishes a function.
+    fn close(&mut self, func: FuncDraft<'a>) -> Result<(), AllocError>
+        ensures { OnOk result (state self.new ≡ closed (state self.old) func.entry) }
+    {
+        self.funcs.push(func)?;
+        self.enter(Stage::Between);
+        Ok(())
+    }
+
+    /// Reads the line that opens a block, or, where the function has one, a declaration.
+    #[tactic(auto, unfolding(crate::specs::Drafts::read_behind))]
+    fn read_behind(
+        &mut self,
+        alloc: Global,
+        func: FuncDraft<'a>,
+        line: &'a [u8],
+    ) -> Result<(), LineError>
+        ensures { Steps result (read_behind (state self.old) func.entry line.now) (state self.new) }
+    {
+        if let Some(found) = block_line(alloc, line)? {
+            return self.open_block(alloc, func, found);
+        }
+        if !has_block(&func) {
+            return Err(LineError::Fault(Fault::Syntax));
+        }
+        self.close(func)?;
+        declare(alloc, self, line)
+    }
+
+    /// Reads the next line.
+    #[tactic(auto, unfolding(crate::specs::Drafts::read_line))]
+    pub fn read(&mut self, alloc: Global, line: &'a [u8]) -> Result<(), LineError>
+        ensures { Steps result (read_line (state self.old) line.now) (state self.new) }
+    {
+        if has_control(line) {
+            return Err(LineError::Fault(Fault::Syntax));
+        }
+        match mem::replace(&mut self.stage, Stage::Between) {
+            Stage::Between => declare(alloc, self, line),
+            Stage::Function(func) => self.read_behind(alloc, func, line),
+            Stage::Block(func, block) => self.read_inside(alloc, func, block, line),
+        }
+    }
+
+    /// Finishes the function that is open at the end of the text.
+    fn finish_function(&mut self, func: FuncDraft<'a>) -> Result<(), LineError>
+        ensures { Steps result (finished_function (state self.old) func.entry) (state self.new) }
+    {
+        if !has_block(&func) {
+            return Err(LineError::Fault(Fault::Syntax));
+        }
+        self.close(func)?;
+        Ok(())
+    }
+
+    /// Finishes what is open at the end of the text.
+    #[tactic(auto, unfolding(crate::specs::Drafts::finished))]
+    pub fn finish(&mut self) -> Result<(), LineError>
+        ensures { Steps result (finished (state self.old)) (state self.new) }
+    {
+        match mem::replace(&mut self.stage, Stage::Between) {
+            Stage::Between => Ok(()),
+            Stage::Function(func) => self.finish_function(func),
+            Stage::Block(_func, _block) => Err(LineError::Fault(Fault::Syntax)),
+        }
     }
 }

@@ -1,239 +1,289 @@
 //! References: the names and numbers that a function's lines mention.
-use crate::read::draft::Draft;
-use crate::read::errors::DumpError;
-use crate::read::reader::{PANIC_DIVIDE, PANIC_SHIFT};
+ghost use Rattle.std.specs.Prelude.{◌≡◌, ◌++◌, not, map, codes, string_bytes, IfOk};
+ghost use Rattle.std.specs.Fmt.{decimal};
+ghost use Rattle.std.specs.List.{find};
+ghost use Rattle.bk_dump.specs.Drafts.{declares};
+ghost use Rattle.bk_dump.specs.Resolved.{missing, missing_control, missing_at_end, place_of, symbol_of, argument_of, callee_of, aux_of, looked_up, value_of, made_block, block_of, func_of, each};
+ghost use Rattle.bk_dump.specs.Views.{Finds, Passes};
+
+use crate::read::block::BlockLine;
+use crate::read::declare::{PANIC_DIVIDE, PANIC_SHIFT, number_of};
+use crate::read::draft::{BlockDraft, FuncDraft};
+use crate::read::end::EndLine;
+use crate::read::errors::ReferenceError;
+use crate::read::mention::Mention;
+use crate::read::scope::Scope;
+use crate::read::value::ValueLine;
 use bk_func::{Aux, Block, Func, Value};
-use bk_ops::{Family, Op};
+use bk_ops::Family;
 use indexmap::IndexSet;
 use std::alloc::{AllocError, Global};
-use std::collections::HashSet;
 
 /// In the aux of a call, the number of `runtime.panicdivide`.
 const DIVIDE_NUMBER: u32 = 4_294_967_294;
 /// In the aux of a call, the number of `runtime.panicshift`.
 const SHIFT_NUMBER: u32 = 4_294_967_295;
 
-/// A reference that names nothing.
-#[derive(Clone, Copy)]
-enum Missing<'a> {
-    Name(&'a str),
-    Value(u32),
-    Block(u32),
-}
-
-/// How a text spells the reference.
-fn spelled(alloc: Global, missing: Missing<'_>) -> Result<String, AllocError> {
-    match missing {
-        Missing::Name(name) => String::from_str(alloc, name),
-        Missing::Value(number) => format!(in alloc; "v{number}"),
-        Missing::Block(number) => format!(in alloc; "b{number}"),
-    }
-}
-
-/// The refusal of a text with this reference.
-fn undefined(alloc: Global, missing: Missing<'_>) -> DumpError {
-    match spelled(alloc, missing) {
-        Ok(name) => DumpError::Undefined { name },
-        Err(_) => DumpError::Memory,
-    }
-}
-
-/// Whether the op's braces hold a name.
-fn mentions_name(op: Op) -> bool {
-    match op.family {
-        Family::Arg | Family::Addr | Family::StaticLECall => true,
-        _ => false,
-    }
-}
-
-/// The number of a name in the set.
-fn place_of(names: &IndexSet<&str>, name: &str) -> Option<u32> {
-    match names.get_index_of(name) {
-        Some(place) => u32::try_from(place).ok(),
-        None => None,
-    }
-}
-
-/// What the name that a value mentions stands for, by the value's op.
-fn aux_of(op: Op, name: &str, parameters: &IndexSet<&str>, names: &IndexSet<&str>) -> Option<Aux> {
-    match op.family {
-        Family::Arg => place_of(parameters, name).map(Aux::Arg),
-        Family::StaticLECall if name == PANIC_DIVIDE => Some(Aux::Sym(DIVIDE_NUMBER)),
-        Family::StaticLECall if name == PANIC_SHIFT => Some(Aux::Sym(SHIFT_NUMBER)),
-        _ => place_of(names, name).map(Aux::Sym),
-    }
+/// A number behind its letter.
+fn spelled(alloc: Global, letter: &str, number: u32) -> Result<String, AllocError>
+    ensures { IfOk result (λ text. string_bytes text ≡ letter.now ++ decimal number) }
+{
+    format!(in alloc; "{letter}{number}")
 }
 
 /// The first of these numbers that is not declared.
-fn first_missing(numbers: &[u32], declared: &HashSet<u32>) -> Option<u32> {
+fn first_missing(declared: &IndexSet<u32>, numbers: &[u32]) -> Option<u32>
+    ensures { result ≡ find (λ n. not (declares declared.now.keys n)) numbers.now }
+{
     numbers
         .iter()
         .copied()
         .find(|number| !declared.contains(number))
 }
 
-/// What the references of one function may name.
-#[derive(Clone, Copy)]
-struct Scope<'b, 'a> {
-    names: &'b IndexSet<&'a str>,
-    parameters: &'b IndexSet<&'a str>,
-    values: &'b HashSet<u32>,
-    blocks: &'b HashSet<u32>,
-    /// The names that the function's values mention, in text order.
-    mentions: &'b [&'a str],
+/// Refuses the first of these numbers that is not declared.
+fn check(
+    alloc: Global,
+    letter: &str,
+    declared: &IndexSet<u32>,
+    numbers: &[u32],
+) -> Result<(), ReferenceError>
+    ensures { Passes result (missing letter.now declared.now.keys numbers.now) }
+{
+    match first_missing(declared, numbers) {
+        Some(number) => Err(ReferenceError::Undefined(spelled(alloc, letter, number)?)),
+        None => Ok(()),
+    }
+}
+
+/// The number of a name in the set.
+fn place_of(names: &IndexSet<&str>, name: &str) -> Result<Option<u32>, AllocError>
+    ensures { IfOk result (λ place. place ≡ place_of (map (λ n. n.now) names.now.keys) name.now) }
+{
+    match names.get_index_of(name) {
+        Some(place) => Ok(Some(number_of(place)?)),
+        None => Ok(None),
+    }
+}
+
+/// The number of a function or a variable.
+fn symbol_of(names: &IndexSet<&str>, name: &str) -> Result<Option<Aux>, AllocError>
+    ensures { IfOk result (λ found. found ≡ symbol_of (map (λ n. n.now) names.now.keys) name.now) }
+{
+    match place_of(names, name)? {
+        Some(place) => Ok(Some(Aux::Sym(place))),
+        None => Ok(None),
+    }
+}
+
+/// The number of a callee; those that panic have numbers of their own.
+fn callee_of(names: &IndexSet<&str>, name: &str) -> Result<Option<Aux>, AllocError>
+    ensures { IfOk result (λ found. found ≡ callee_of (map (λ n. n.now) names.now.keys) name.now) }
+{
+    if name == PANIC_DIVIDE {
+        Ok(Some(Aux::Sym(DIVIDE_NUMBER)))
+    } else if name == PANIC_SHIFT {
+        Ok(Some(Aux::Sym(SHIFT_NUMBER)))
+    } else {
+        symbol_of(names, name)
+    }
+}
+
+/// The place of a parameter.
+fn argument_of(parameters: &IndexSet<&str>, name: &str) -> Result<Option<Aux>, AllocError>
+    ensures { IfOk result (λ found. found ≡ argument_of (map (λ n. n.now) parameters.now.keys) name.now) }
+{
+    match place_of(parameters, name)? {
+        Some(place) => Ok(Some(Aux::Arg(place))),
+        None => Ok(None),
+    }
 }
 
 impl<'b, 'a> Scope<'b, 'a> {
-    /// The aux of a value, its name looked up, and the count of names mentioned up to here.
-    fn resolve_aux(
-        &self,
-        alloc: Global,
-        op: Op,
-        aux: Aux,
-        count: usize,
-    ) -> Result<(Aux, usize), DumpError> {
-        if !mentions_name(op) || count >= self.mentions.len() {
-            return Ok((aux, count));
-        }
-        let name = self.mentions[count];
-        match aux_of(op, name, self.parameters, self.names) {
-            Some(aux) => Ok((aux, count + 1)),
-            None => Err(undefined(alloc, Missing::Name(name))),
+    /// What the name that a value mentions stands for, by the family of the value's op.
+    #[tactic(auto, unfolding(crate::specs::Resolved::aux_of))]
+    fn aux_of(&self, family: Family, name: &str) -> Result<Option<Aux>, AllocError>
+        ensures { IfOk result (λ found. found ≡ aux_of self.now family name.now) }
+    {
+        match family {
+            Family::Arg => argument_of(self.parameters, name),
+            Family::StaticLECall => callee_of(self.names, name),
+            _ => symbol_of(self.names, name),
         }
     }
 
-    /// The values of a block with their names looked up, and the count of names mentioned up to here.
-    fn resolve_values(
+    /// What stands beside the arguments, its name looked up.
+    #[tactic(auto, unfolding(crate::specs::Resolved::looked_up))]
+    fn looked_up(
         &self,
         alloc: Global,
-        values: Vec<Value>,
-        count: usize,
-    ) -> Result<(Vec<Value>, usize), DumpError> {
-        let mut resolved = Vec::with_capacity(alloc, values.len())?;
-        let mut count = count;
-        for value in values {
-            let Value {
-                id,
-                op,
-                ty,
-                args,
-                int,
-                aux,
-            } = value;
-            let (aux, next) = self.resolve_aux(alloc, op, aux, count)?;
-            if let Some(number) = first_missing(args.as_slice(), self.values) {
-                return Err(undefined(alloc, Missing::Value(number)));
-            }
-            count = next;
-            resolved.push(Value {
-                id,
-                op,
-                ty,
-                args,
-                int,
-                aux,
-            })?;
+        family: Family,
+        mention: &Mention<'a>,
+    ) -> Result<Aux, ReferenceError>
+        ensures { Finds (λ x. x) result (looked_up self.now family mention.now) }
+    {
+        let Some(name) = mention.name else {
+            return Ok(mention.aux);
+        };
+        match self.aux_of(family, name)? {
+            Some(aux) => Ok(aux),
+            None => Err(ReferenceError::Undefined(String::from_str(alloc, name)?)),
         }
-        Ok((resolved, count))
     }
 
-    /// Whether the references at the end of a block name something.
-    fn check_end(
+    /// A value with its references looked up.
+    #[tactic(auto, unfolding(crate::specs::Resolved::value_of))]
+    fn value_of(&self, alloc: Global, line: ValueLine<'a>) -> Result<Value, ReferenceError>
+        ensures { Finds (λ v. v) result (value_of self.now line.entry) }
+    {
+        let ValueLine {
+            id,
+            op,
+            ty,
+            args,
+            int,
+            mention,
+        } = line;
+        let aux = self.looked_up(alloc, op.family, &mention)?;
+        check(alloc, "v", self.values, args.as_slice())?;
+        Ok(Value {
+            id,
+            op,
+            ty,
+            args,
+            int,
+            aux,
+        })
+    }
+
+    /// The values of a block with their references looked up.
+    fn values_of(
         &self,
         alloc: Global,
-        control: Option<u32>,
-        succs: &[u32],
-    ) -> Result<(), DumpError> {
-        if let Some(number) = control
-            && !self.values.contains(&number)
-        {
-            return Err(undefined(alloc, Missing::Value(number)));
+        lines: Vec<ValueLine<'a>>,
+    ) -> Result<Vec<Value>, ReferenceError>
+        ensures { Finds (λ vs. vs.items) result (each (value_of self.now) lines.entry.items) }
+    {
+        let mut values = Vec::with_capacity(alloc, lines.len())?;
+        for line in lines {
+            values.push(self.value_of(alloc, line)?)?;
         }
-        match first_missing(succs, self.blocks) {
-            Some(number) => Err(undefined(alloc, Missing::Block(number))),
+        Ok(values)
+    }
+
+    /// Refuses a control that is not declared.
+    fn check_control(&self, alloc: Global, control: Option<u32>) -> Result<(), ReferenceError>
+        ensures { Passes result (missing_control self.now.values control) }
+    {
+        match control {
+            Some(number) => check(alloc, "v", self.values, &[number]),
             None => Ok(()),
         }
     }
 
-    /// A block with its names looked up, and the count of names mentioned up to its end.
-    fn resolve_block(
-        &self,
-        alloc: Global,
-        block: Block,
-        count: usize,
-    ) -> Result<(Block, usize), DumpError> {
-        let Block {
-            id,
-            kind,
-            control,
-            preds,
-            succs,
-            likely,
-            values,
-        } = block;
-        if let Some(number) = first_missing(&preds, self.blocks) {
-            return Err(undefined(alloc, Missing::Block(number)));
-        }
-        let (values, count) = self.resolve_values(alloc, values, count)?;
-        self.check_end(alloc, control, &succs)?;
-        Ok((
-            Block {
-                id,
-                kind,
-                control,
-                preds,
-                succs,
-                likely,
-                values,
-            },
-            count,
-        ))
+    /// Refuses the first reference at the end of a block that names nothing.
+    #[tactic(auto, unfolding(crate::specs::Resolved::missing_at_end))]
+    fn check_end(&self, alloc: Global, end: &EndLine) -> Result<(), ReferenceError>
+        ensures { Passes result (missing_at_end self.now end.now) }
+    {
+        self.check_control(alloc, end.control)?;
+        check(alloc, "b", self.blocks, &end.succs)
     }
 
-    /// The blocks of the function with their names looked up.
-    fn resolve_blocks(&self, alloc: Global, blocks: Vec<Block>) -> Result<Vec<Block>, DumpError> {
-        let mut resolved = Vec::with_capacity(alloc, blocks.len())?;
-        let mut count = 0;
-        for block in blocks {
-            let (block, next) = self.resolve_block(alloc, block, count)?;
-            count = next;
-            resolved.push(block)?;
+    /// A block with its references looked up.
+    #[tactic(auto, unfolding(crate::specs::Resolved::block_of))]
+    fn block_of(&self, alloc: Global, block: BlockDraft<'a>) -> Result<Block, ReferenceError>
+        ensures { Finds (λ b. b) result (block_of self.now block.entry) }
+    {
+        let BlockDraft { label, values, end } = block;
+        check(alloc, "b", self.blocks, &label.preds)?;
+        let values = self.values_of(alloc, values)?;
+        self.check_end(alloc, &end)?;
+        Ok(made_block(label, values, end))
+    }
+
+    /// The blocks of the function with their references looked up.
+    fn blocks_of(
+        &self,
+        alloc: Global,
+        drafts: Vec<BlockDraft<'a>>,
+    ) -> Result<Vec<Block>, ReferenceError>
+        ensures { Finds (λ bs. bs.items) result (each (block_of self.now) drafts.entry.items) }
+    {
+        let mut blocks = Vec::with_capacity(alloc, drafts.len())?;
+        for draft in drafts {
+            blocks.push(self.block_of(alloc, draft)?)?;
         }
-        Ok(resolved)
+        Ok(blocks)
     }
 }
 
-/// The function with its references looked up. Undefined says which is the first in text order that names nothing.
-pub(crate) fn resolve<'a>(
-    alloc: Global,
-    draft: Draft<'a>,
-    names: &IndexSet<&'a str>,
-) -> Result<Func, DumpError> {
-    let Draft {
-        func,
-        parameters,
-        mentions,
+/// A block of what its lines declare.
+fn made_block(label: BlockLine, values: Vec<Value>, end: EndLine) -> Block
+    ensures { result ≡ made_block label values.items end }
+{
+    let BlockLine { id, preds } = label;
+    let EndLine {
+        kind,
+        control,
+        succs,
+        likely,
+    } = end;
+    Block {
+        id,
+        kind,
+        control,
+        preds,
+        succs,
+        likely,
         values,
-        blocks,
-    } = draft;
-    let Func {
+    }
+}
+
+/// A function with its references looked up.
+#[tactic(auto, unfolding(crate::specs::Resolved::func_of))]
+pub(crate) fn func_of<'a>(
+    alloc: Global,
+    draft: FuncDraft<'a>,
+    names: &IndexSet<&'a str>,
+) -> Result<Func, ReferenceError>
+    ensures { Finds (λ f. f) result (func_of (map (λ n. n.now) names.now.keys) draft.entry) }
+{
+    let FuncDraft {
         name,
+        parameters,
         sig,
-        blocks: read,
-        given,
-    } = func;
+        blocks,
+        value_ids,
+        block_ids,
+    } = draft;
+    let given = number_of(value_ids.len())?;
     let scope = Scope {
         names,
         parameters: &parameters,
-        values: &values,
-        blocks: &blocks,
-        mentions: mentions.as_slice(),
+        values: &value_ids,
+        blocks: &block_ids,
     };
-    let resolved = scope.resolve_blocks(alloc, read)?;
+    let blocks = scope.blocks_of(alloc, blocks)?;
     Ok(Func {
         name,
         sig,
-        blocks: resolved,
+        blocks,
         given,
     })
+}
+
+/// The functions with their references looked up.
+pub(crate) fn funcs_of<'a>(
+    alloc: Global,
+    drafts: Vec<FuncDraft<'a>>,
+    names: &IndexSet<&'a str>,
+) -> Result<Vec<Func>, ReferenceError>
+    ensures { Finds (λ fs. fs.items) result (each (func_of (map (λ n. n.now) names.now.keys)) drafts.entry.items) }
+{
+    let mut funcs = Vec::with_capacity(alloc, drafts.len())?;
+    for draft in drafts {
+        funcs.push(func_of(alloc, draft, names)?)?;
+    }
+    Ok(funcs)
 }

@@ -1,6 +1,7 @@
 //! The printer of rules.
-ghost use Rattle.std.specs.Prelude.{◌≡◌, ◌++◌, string_bytes, IfOk, OnOk};
+ghost use Rattle.std.specs.Prelude.{◌≡◌, ◌++◌, ℕ, Bool, false, List, Ok, string_bytes, IfOk, OnOk};
 ghost use Rattle.bk_rule_text.specs.Layout.{rule_text, rules_text};
+ghost use Rattle.bk_rule_text.specs.Texts.{rules_of};
 
 mod expr;
 mod tree;
@@ -38,9 +39,11 @@ fn write_rules(alloc: Global, out: &mut String, rules: &[Rule]) -> Result<(), Me
 /// Writes rules, one a line, with one space between parts.
 ///
 /// A variable is `x` and its number, and one that names a node stands before its `:`. A use of an operator inside
-/// another expression stands in round brackets. Rules that `read_rules` gives are read back from what is written.
+/// another expression stands in round brackets. Rules that a text reads as are read back from what is written, also where
+/// that text is one of extra rules.
 pub fn print_rules(alloc: Global, rules: &[Rule]) -> Result<Vec<u8>, Memory>
-    ensures { IfOk result (λ text. text.items ≡ rules_text rules.now) }
+    ensures text { IfOk result (λ text. text.items ≡ rules_text rules.now) }
+    ensures again { IfOk result (λ text. (extra : Bool) (bytes : List ℕ) → rules_of extra bytes ≡ Ok rules.now → rules_of false text.items ≡ Ok rules.now) }
 {
     let mut out = String::new(alloc);
     write_rules(alloc, &mut out, rules)?;

@@ -27,7 +27,10 @@ fn closed_name(text: &[u8]) -> Option<(&[u8], &[u8])>
 }
 
 /// The type, or the variable of a type, that a name stands for.
-fn type_named(scope: &Scope, name: &[u8]) -> Result<TyPart, Unread> {
+#[tactic(auto, unfolding(crate::specs::Builds::type_named))]
+fn type_named(scope: &Scope, name: &[u8]) -> Result<TyPart, Unread>
+    ensures { Reads (λ ty. ty) result (type_named scope.now name.now) }
+{
     match type_of_name(name) {
         Some(ty) => Ok(TyPart::Is(ty)),
         None => Ok(TyPart::Var(scope.number(name)?)),
@@ -35,7 +38,10 @@ fn type_named(scope: &Scope, name: &[u8]) -> Result<TyPart, Unread> {
 }
 
 /// Reads a type, and the mark that closes it.
-fn type_in<'t>(scope: &Scope, text: &'t [u8]) -> Result<(Option<TyPart>, &'t [u8]), Unread> {
+#[tactic(auto, unfolding(crate::specs::Builds::type_in))]
+fn type_in<'t>(scope: &Scope, text: &'t [u8]) -> Result<(Option<TyPart>, &'t [u8]), Unread>
+    ensures { Reads (λ x. (x.0, x.1.now)) result (type_in scope.now text.now) }
+{
     let Some((name, rest)) = closed_name(text) else {
         return Err(Unread::Syntax);
     };
@@ -43,7 +49,10 @@ fn type_in<'t>(scope: &Scope, text: &'t [u8]) -> Result<(Option<TyPart>, &'t [u8
 }
 
 /// Reads the type of a node, where one stands.
-fn type_part<'t>(scope: &Scope, text: &'t [u8]) -> Result<(Option<TyPart>, &'t [u8]), Unread> {
+#[tactic(auto, unfolding(crate::specs::Builds::type_part_at))]
+fn type_part<'t>(scope: &Scope, text: &'t [u8]) -> Result<(Option<TyPart>, &'t [u8]), Unread>
+    ensures { Reads (λ x. (x.0, x.1.now)) result (type_part_at scope.now text.now) }
+{
     match behind(text, b"<") {
         Some(inside) => type_in(scope, inside),
         None => Ok((None, text)),
@@ -51,12 +60,15 @@ fn type_part<'t>(scope: &Scope, text: &'t [u8]) -> Result<(Option<TyPart>, &'t [
 }
 
 /// Reads the AuxInt of a node, where one stands.
+#[tactic(auto, unfolding(crate::specs::Builds::int_part_at, crate::specs::Front::closed))]
 fn int_part<'t>(
     alloc: Global,
     scope: &Scope,
     levels: Levels,
     text: &'t [u8],
-) -> Result<(Option<Expr>, &'t [u8]), Unread> {
+) -> Result<(Option<Expr>, &'t [u8]), Unread>
+    ensures { Reads (λ x. (x.0, x.1.now)) result (int_part_at scope.now levels.left text.now) }
+{
     let Some(inside) = behind(text, b"[") else {
         return Ok((None, text));
     };
@@ -68,7 +80,10 @@ fn int_part<'t>(
 }
 
 /// Reads a variable, and the brace that closes it.
-fn aux_in<'t>(scope: &Scope, text: &'t [u8]) -> Result<(Option<u32>, &'t [u8]), Unread> {
+#[tactic(auto, unfolding(crate::specs::Builds::aux_in))]
+fn aux_in<'t>(scope: &Scope, text: &'t [u8]) -> Result<(Option<u32>, &'t [u8]), Unread>
+    ensures { Reads (λ x. (x.0, x.1.now)) result (aux_in scope.now text.now) }
+{
     let Some((name, rest)) = closed(text, b"}") else {
         return Err(Unread::Syntax);
     };
@@ -76,7 +91,10 @@ fn aux_in<'t>(scope: &Scope, text: &'t [u8]) -> Result<(Option<u32>, &'t [u8]), 
 }
 
 /// Reads what stands in braces, where they stand.
-fn aux_part<'t>(scope: &Scope, text: &'t [u8]) -> Result<(Option<u32>, &'t [u8]), Unread> {
+#[tactic(auto, unfolding(crate::specs::Builds::aux_part_at))]
+fn aux_part<'t>(scope: &Scope, text: &'t [u8]) -> Result<(Option<u32>, &'t [u8]), Unread>
+    ensures { Reads (λ x. (x.0, x.1.now)) result (aux_part_at scope.now text.now) }
+{
     match behind(text, b"{") {
         Some(inside) => aux_in(scope, inside),
         None => Ok((None, text)),
@@ -85,12 +103,15 @@ fn aux_part<'t>(scope: &Scope, text: &'t [u8]) -> Result<(Option<u32>, &'t [u8])
 
 /// Reads a node, whose bracket is open.
 #[cycle(build)]
+#[tactic(auto, unfolding(crate::specs::Builds::node_at))]
 fn node<'t>(
     alloc: Global,
     scope: &Scope,
     levels: Levels,
     text: &'t [u8],
-) -> Result<(Build, &'t [u8]), Unread> {
+) -> Result<(Build, &'t [u8]), Unread>
+    ensures { Reads (λ x. (x.0, x.1.now)) result (node_at scope.now levels.left (build_at scope.now levels.left) text.now) }
+{
     let Some((op, rest)) = op(text) else {
         return Err(Unread::Syntax);
     };
@@ -117,7 +138,9 @@ fn builds<'t>(
     scope: &Scope,
     levels: Levels,
     text: &'t [u8],
-) -> Result<(Items<Build>, &'t [u8]), Unread> {
+) -> Result<(Items<Build>, &'t [u8]), Unread>
+    ensures { Reads (λ x. (x.0, x.1.now)) result (until_bracket (build_at scope.now levels.left) (length text.now) text.now) }
+{
     let mut args = Vec::new(alloc);
     let mut rest = text;
     for turn in 0..text.len() {
@@ -138,19 +161,24 @@ pub fn build<'t>(
     scope: &Scope,
     levels: Levels,
     text: &'t [u8],
-) -> Result<(Build, &'t [u8]), Unread> {
+) -> Result<(Build, &'t [u8]), Unread>
+    ensures { Reads (λ x. (x.0, x.1.now)) result (build_at scope.now levels.left text.now) }
+{
     let inner = levels.inner()?;
     build_in(alloc, scope, inner, text)
 }
 
 /// Reads a node or a variable.
 #[cycle(build)]
+#[tactic(auto, unfolding(crate::specs::Builds::build_in))]
 fn build_in<'t>(
     alloc: Global,
     scope: &Scope,
     inner: Levels,
     text: &'t [u8],
-) -> Result<(Build, &'t [u8]), Unread> {
+) -> Result<(Build, &'t [u8]), Unread>
+    ensures { Reads (λ x. (x.0, x.1.now)) result (build_in scope.now inner.left (build_at scope.now inner.left) text.now) }
+{
     match behind(text, b"(") {
         Some(rest) => node(alloc, scope, inner, rest),
         None => bound(scope, text),
@@ -158,7 +186,10 @@ fn build_in<'t>(
 }
 
 /// Reads a variable.
-fn bound<'t>(scope: &Scope, text: &'t [u8]) -> Result<(Build, &'t [u8]), Unread> {
+#[tactic(auto, unfolding(crate::specs::Builds::bound_at))]
+fn bound<'t>(scope: &Scope, text: &'t [u8]) -> Result<(Build, &'t [u8]), Unread>
+    ensures { Reads (λ x. (x.0, x.1.now)) result (bound_at scope.now text.now) }
+{
     let Some((name, rest)) = variable(text) else {
         return Err(Unread::Syntax);
     };

@@ -17,24 +17,30 @@ use bk_rule::{Expr, Fun, make};
 use std::alloc::Global;
 
 /// Reads an expression, and gives the text behind it.
+#[tactic(auto, unfolding(crate::specs::Exprs::expr_at))]
 pub fn expr<'t>(
     alloc: Global,
     scope: &Scope,
     levels: Levels,
     text: &'t [u8],
-) -> Result<(Expr, &'t [u8]), Unread> {
+) -> Result<(Expr, &'t [u8]), Unread>
+    ensures { Reads (λ x. (x.0, x.1.now)) result (expr_at scope.now levels.left text.now) }
+{
     chain(alloc, scope, levels, Level::Comparison, text)
 }
 
 /// Reads operands with the operators of this level between them, which group from the left.
 #[cycle(expr)]
+#[tactic(auto, unfolding(crate::specs::Exprs::chained))]
 fn chain<'t>(
     alloc: Global,
     scope: &Scope,
     levels: Levels,
     level: Level,
     text: &'t [u8],
-) -> Result<(Expr, &'t [u8]), Unread> {
+) -> Result<(Expr, &'t [u8]), Unread>
+    ensures { Reads (λ x. (x.0, x.1.now)) result (level_at (operand_at scope.now levels.left) level text.now) }
+{
     let (left, rest) = tighter(alloc, scope, levels, level, text)?;
     chain_on(alloc, scope, levels, level, left, rest)
 }
@@ -48,7 +54,9 @@ fn chain_on<'t>(
     level: Level,
     left: Expr,
     text: &'t [u8],
-) -> Result<(Expr, &'t [u8]), Unread> {
+) -> Result<(Expr, &'t [u8]), Unread>
+    ensures { Reads (λ x. (x.0, x.1.now)) result (chain (operator_at level) (tighter_at (operand_at scope.now levels.left) level) (length text.now) left text.now) }
+{
     let mut whole = left;
     let mut rest = text;
     for turn in 0..text.len() {
@@ -70,7 +78,9 @@ fn tighter<'t>(
     levels: Levels,
     level: Level,
     text: &'t [u8],
-) -> Result<(Expr, &'t [u8]), Unread> {
+) -> Result<(Expr, &'t [u8]), Unread>
+    ensures { Reads (λ x. (x.0, x.1.now)) result (tighter_at (operand_at scope.now levels.left) level text.now) }
+{
     match level {
         Level::Product => operand(alloc, scope, levels, text),
         Level::Sum => chain(alloc, scope, levels, Level::Product, text),
@@ -85,19 +95,24 @@ fn operand<'t>(
     scope: &Scope,
     levels: Levels,
     text: &'t [u8],
-) -> Result<(Expr, &'t [u8]), Unread> {
+) -> Result<(Expr, &'t [u8]), Unread>
+    ensures { Reads (λ x. (x.0, x.1.now)) result (operand_at scope.now levels.left text.now) }
+{
     let inner = levels.inner()?;
     operand_in(alloc, scope, inner, skip_blanks(text))
 }
 
 /// Reads a number, an operator before its operand, an expression in brackets, a call of a function, or a variable.
 #[cycle(expr)]
+#[tactic(auto, unfolding(crate::specs::Exprs::operand_in))]
 fn operand_in<'t>(
     alloc: Global,
     scope: &Scope,
     inner: Levels,
     text: &'t [u8],
-) -> Result<(Expr, &'t [u8]), Unread> {
+) -> Result<(Expr, &'t [u8]), Unread>
+    ensures { Reads (λ x. (x.0, x.1.now)) result (operand_in scope.now (operand_at scope.now inner.left) text.now) }
+{
     if begins_number(text) {
         return literal(text);
     }
@@ -125,25 +140,31 @@ fn literal(text: &[u8]) -> Result<(Expr, &[u8]), Unread>
 
 /// Reads the operand of an operator that stands before it.
 #[cycle(expr)]
+#[tactic(auto, unfolding(crate::specs::Exprs::prefixed_at))]
 fn prefixed<'t>(
     alloc: Global,
     scope: &Scope,
     levels: Levels,
     fun: Fun,
     text: &'t [u8],
-) -> Result<(Expr, &'t [u8]), Unread> {
+) -> Result<(Expr, &'t [u8]), Unread>
+    ensures { Reads (λ x. (x.0, x.1.now)) result (prefixed_at (operand_at scope.now levels.left) fun text.now) }
+{
     let (inner, rest) = operand(alloc, scope, levels, text)?;
     Ok((make::call(alloc, fun, [inner])?, rest))
 }
 
 /// Reads an expression and the bracket that closes it.
 #[cycle(expr)]
+#[tactic(auto, unfolding(crate::specs::Front::closed))]
 fn bracketed<'t>(
     alloc: Global,
     scope: &Scope,
     levels: Levels,
     text: &'t [u8],
-) -> Result<(Expr, &'t [u8]), Unread> {
+) -> Result<(Expr, &'t [u8]), Unread>
+    ensures { Reads (λ x. (x.0, x.1.now)) result (closed (codes ")") (whole_at (operand_at scope.now levels.left)) text.now) }
+{
     let (inner, rest) = chain(alloc, scope, levels, Level::Comparison, text)?;
     match behind(rest, b")") {
         Some(rest) => Ok((inner, rest)),
@@ -162,13 +183,16 @@ fn opened(text: &[u8]) -> Option<(&[u8], &[u8])>
 
 /// Reads what a function is given, and the bracket that closes it.
 #[cycle(expr)]
+#[tactic(auto, unfolding(crate::specs::Exprs::function_at))]
 fn function<'t>(
     alloc: Global,
     scope: &Scope,
     levels: Levels,
     name: &[u8],
     text: &'t [u8],
-) -> Result<(Expr, &'t [u8]), Unread> {
+) -> Result<(Expr, &'t [u8]), Unread>
+    ensures { Reads (λ x. (x.0, x.1.now)) result (function_at scope.now (whole_at (operand_at scope.now levels.left)) name.now text.now) }
+{
     let Some(fun) = function_named(name) else {
         return Err(Unread::Syntax);
     };
@@ -181,26 +205,32 @@ fn function<'t>(
 
 /// Reads an expression, and the bracket that closes it.
 #[cycle(expr)]
+#[tactic(auto, unfolding(crate::specs::Exprs::one_at))]
 fn one<'t>(
     alloc: Global,
     scope: &Scope,
     levels: Levels,
     fun: Fun,
     text: &'t [u8],
-) -> Result<(Expr, &'t [u8]), Unread> {
+) -> Result<(Expr, &'t [u8]), Unread>
+    ensures { Reads (λ x. (x.0, x.1.now)) result (one_at (whole_at (operand_at scope.now levels.left)) fun text.now) }
+{
     let (inner, rest) = bracketed(alloc, scope, levels, text)?;
     Ok((make::call(alloc, fun, [inner])?, rest))
 }
 
 /// Reads two expressions with a comma between them, and the bracket that closes them.
 #[cycle(expr)]
+#[tactic(auto, unfolding(crate::specs::Exprs::two_at, crate::specs::Front::closed))]
 fn two<'t>(
     alloc: Global,
     scope: &Scope,
     levels: Levels,
     fun: Fun,
     text: &'t [u8],
-) -> Result<(Expr, &'t [u8]), Unread> {
+) -> Result<(Expr, &'t [u8]), Unread>
+    ensures { Reads (λ x. (x.0, x.1.now)) result (two_at (whole_at (operand_at scope.now levels.left)) fun text.now) }
+{
     let (first, rest) = chain(alloc, scope, levels, Level::Comparison, text)?;
     let Some(rest) = behind(rest, b",") else {
         return Err(Unread::Syntax);
@@ -210,12 +240,15 @@ fn two<'t>(
 }
 
 /// Reads the variable of a type, and the bracket that closes it.
+#[tactic(auto, unfolding(crate::specs::Exprs::of_type_at))]
 fn of_type<'t>(
     alloc: Global,
     scope: &Scope,
     fun: Fun,
     text: &'t [u8],
-) -> Result<(Expr, &'t [u8]), Unread> {
+) -> Result<(Expr, &'t [u8]), Unread>
+    ensures { Reads (λ x. (x.0, x.1.now)) result (of_type_at scope.now fun text.now) }
+{
     let Some((name, rest)) = closed_variable(text) else {
         return Err(Unread::Syntax);
     };
@@ -233,11 +266,14 @@ fn closed_variable(text: &[u8]) -> Option<(&[u8], &[u8])>
 }
 
 /// Reads `x.Uses` or a variable.
+#[tactic(auto, unfolding(crate::specs::Exprs::about_variable_at))]
 fn about_variable<'t>(
     alloc: Global,
     scope: &Scope,
     text: &'t [u8],
-) -> Result<(Expr, &'t [u8]), Unread> {
+) -> Result<(Expr, &'t [u8]), Unread>
+    ensures { Reads (λ x. (x.0, x.1.now)) result (about_variable_at scope.now text.now) }
+{
     let Some((name, rest)) = variable(text) else {
         return Err(Unread::Syntax);
     };

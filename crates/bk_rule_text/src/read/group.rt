@@ -1,7 +1,9 @@
 //! Groups, as in `(64|32|16|8)`, and the rules that they stand for.
-ghost use Rattle.std.specs.Prelude.{◌≡◌, ◌≤◌, length};
+ghost use Rattle.std.specs.Prelude.{◌≡◌, ◌≤◌, ◌++◌, [], length, map, slice_index_or, IfOk, OnOk};
+ghost use Rattle.std.specs.List.{list_all};
 ghost use Rattle.std.specs.Option.{option_map};
-ghost use Rattle.bk_rule_text.specs.Groups.{is_part_byte, part_len, part_at};
+ghost use Rattle.bk_rule_text.specs.Groups.{is_part_byte, part_len, part_at, parts_at, group_at, bit_at, bits, first_count, has_count, count_of, bytes_at, expanded};
+ghost use Rattle.bk_rule_text.specs.Views.{bit_of};
 
 use crate::read::front::after;
 use std::alloc::{AllocError, Global};
@@ -47,10 +49,9 @@ fn part(text: &[u8]) -> Option<(&[u8], &[u8])>
 }
 
 /// Parts with `|` between them up to the bracket that closes them, and the text behind it.
-fn parts<'a>(
-    alloc: Global,
-    text: &'a [u8],
-) -> Result<Option<(Vec<&'a [u8]>, &'a [u8])>, AllocError> {
+fn parts<'a>(alloc: Global, text: &'a [u8]) -> Result<Option<(Vec<&'a [u8]>, &'a [u8])>, AllocError>
+    ensures { IfOk result (λ found. option_map (λ x. (map (λ part. part.now) x.0.items, x.1.now)) found ≡ parts_at (length text.now) text.now) }
+{
     let mut parts = Vec::new(alloc);
     let mut rest = text;
     for turn in 0..text.len() {
@@ -70,10 +71,10 @@ fn parts<'a>(
 }
 
 /// The parts of the group that stands here, and the text behind it. A group has two parts or more.
-fn group<'a>(
-    alloc: Global,
-    text: &'a [u8],
-) -> Result<Option<(Vec<&'a [u8]>, &'a [u8])>, AllocError> {
+#[tactic(auto, unfolding(crate::specs::Groups::group_at))]
+fn group<'a>(alloc: Global, text: &'a [u8]) -> Result<Option<(Vec<&'a [u8]>, &'a [u8])>, AllocError>
+    ensures { IfOk result (λ found. option_map (λ x. (map (λ part. part.now) x.0.items, x.1.now)) found ≡ group_at text.now) }
+{
     let Some(inside) = after(text, b"(") else {
         return Ok(None);
     };
@@ -83,30 +84,43 @@ fn group<'a>(
     }
 }
 
+/// The bit that begins a text, whose first byte and the bytes behind it are these, and the text behind it.
+fn next_bit<'a>(
+    alloc: Global,
+    text: &'a [u8],
+    first: u8,
+    rest: &'a [u8],
+) -> Result<(Bit<'a>, &'a [u8]), AllocError>
+    ensures { IfOk result (λ x. (bit_of x.0, x.1.now) ≡ bit_at (group_at text.now) first rest.now) }
+{
+    match group(alloc, text)? {
+        Some((parts, rest)) => Ok((Bit::Group(parts), rest)),
+        None => Ok((Bit::Byte(first), rest)),
+    }
+}
+
 /// The bits of a line.
-pub fn bits(alloc: Global, line: &[u8]) -> Result<Vec<Bit<'_>>, AllocError> {
+#[tactic(auto, unfolding(crate::specs::Groups::bits))]
+pub fn bits(alloc: Global, line: &[u8]) -> Result<Vec<Bit<'_>>, AllocError>
+    ensures { IfOk result (λ found. map bit_of found.items ≡ bits line.now) }
+{
     let mut bits = Vec::new(alloc);
     let mut rest = line;
     for turn in 0..line.len() {
-        let Some((first, next)) = rest.split_first() else {
+        let Some((first, behind)) = rest.split_first() else {
             return Ok(bits);
         };
-        match group(alloc, rest)? {
-            Some((parts, next)) => {
-                bits.push(Bit::Group(parts))?;
-                rest = next;
-            }
-            None => {
-                bits.push(Bit::Byte(*first))?;
-                rest = next;
-            }
-        }
+        let (bit, next) = next_bit(alloc, rest, *first, behind)?;
+        bits.push(bit)?;
+        rest = next;
     }
     Ok(bits)
 }
 
 /// The count of the parts of the first group, 1 where there is none.
-fn first_count(bits: &[Bit]) -> usize {
+fn first_count(bits: &[Bit]) -> usize
+    ensures { result ≡ first_count (map bit_of bits.now) }
+{
     for bit in bits {
         if let Bit::Group(parts) = bit {
             return parts.len();
@@ -116,17 +130,29 @@ fn first_count(bits: &[Bit]) -> usize {
 }
 
 /// Whether a bit is a group of so many parts, or a byte.
-fn has_count(bit: &Bit, count: usize) -> bool {
+fn has_count(bit: &Bit, count: usize) -> bool
+    ensures { result ≡ has_count count (bit_of bit.now) }
+{
     match bit {
         Bit::Byte(_) => true,
         Bit::Group(parts) => parts.len() == count,
     }
 }
 
+/// Whether all groups have so many parts.
+fn all_have(bits: &[Bit], count: usize) -> bool
+    ensures { result ≡ list_all (λ bit. has_count count (bit_of bit)) bits.now }
+{
+    bits.iter().all(|bit| has_count(bit, count))
+}
+
 /// How many rules a line with these bits stands for, None where its groups have different numbers of parts.
-pub fn count_of(bits: &[Bit]) -> Option<usize> {
+#[tactic(auto, unfolding(crate::specs::Groups::count_of))]
+pub fn count_of(bits: &[Bit]) -> Option<usize>
+    ensures { result ≡ count_of (map bit_of bits.now) }
+{
     let count = first_count(bits);
-    if bits.iter().all(|bit| has_count(bit, count)) {
+    if all_have(bits, count) {
         Some(count)
     } else {
         None
@@ -134,7 +160,9 @@ pub fn count_of(bits: &[Bit]) -> Option<usize> {
 }
 
 /// What a group stands for in the rule at this place.
-fn part_of<'a>(parts: &[&'a [u8]], place: usize) -> &'a [u8] {
+fn part_of<'a>(parts: &[&'a [u8]], place: usize) -> &'a [u8]
+    ensures { result.now ≡ slice_index_or (map (λ part. part.now) parts.now) place [] }
+{
     match parts.get(place) {
         Some(part) => part,
         None => &[],
@@ -142,7 +170,9 @@ fn part_of<'a>(parts: &[&'a [u8]], place: usize) -> &'a [u8] {
 }
 
 /// Writes what a bit stands for in the rule at this place.
-fn write_bit(text: &mut Vec<u8>, bit: &Bit, place: usize) -> Result<(), AllocError> {
+fn write_bit(text: &mut Vec<u8>, bit: &Bit, place: usize) -> Result<(), AllocError>
+    ensures { OnOk result (text.new.items ≡ text.old.items ++ bytes_at place (bit_of bit.now)) }
+{
     match bit {
         Bit::Byte(byte) => Ok(text.push(*byte)?),
         Bit::Group(parts) => text.extend_from_slice(part_of(parts, place)),
@@ -150,7 +180,9 @@ fn write_bit(text: &mut Vec<u8>, bit: &Bit, place: usize) -> Result<(), AllocErr
 }
 
 /// The text of the rule at this place, of those that the line stands for.
-pub fn expanded(alloc: Global, bits: &[Bit], place: usize) -> Result<Vec<u8>, AllocError> {
+pub fn expanded(alloc: Global, bits: &[Bit], place: usize) -> Result<Vec<u8>, AllocError>
+    ensures { IfOk result (λ text. text.items ≡ expanded place (map bit_of bits.now)) }
+{
     let mut text = Vec::new(alloc);
     for bit in bits {
         write_bit(&mut text, bit, place)?;

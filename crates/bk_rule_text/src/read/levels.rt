@@ -1,5 +1,5 @@
 //! How deep brackets may stand in one another.
-ghost use Rattle.std.specs.Prelude.{◌≡◌, ◌+◌, IfOk};
+ghost use Rattle.std.specs.Prelude.{◌≡◌, ◌+◌, IfOk, IfErr};
 
 use crate::errors::Unread;
 
@@ -28,7 +28,8 @@ impl Levels {
 
     /// The levels inside one more bracket.
     pub fn inner(self) -> Result<Levels, Unread>
-        ensures { IfOk result (λ levels. self.left ≡ levels.left + 1) }
+        ensures ok { IfOk result (λ levels. self.left ≡ levels.left + 1) }
+        ensures memory { IfErr result (λ unread. unread ≡ Unread.Memory) }
     {
         if self.left == 0 || self.room == 0 {
             return Err(Unread::Memory);

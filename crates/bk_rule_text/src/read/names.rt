@@ -40,13 +40,17 @@ impl<'a> Names<'a> {
     }
 
     /// The number of the variable with this name, which gets the next one where it is new.
-    pub fn number(&mut self, name: &'a [u8]) -> Result<u32, AllocError> {
+    pub fn number(&mut self, name: &'a [u8]) -> Result<u32, AllocError>
+        ensures { IfOk result (λ number. (number, self.new) ≡ numbered self.old name.now) }
+    {
         let (place, _) = self.names.insert_full(name)?;
         number_at(place)
     }
 
     /// The place of this name among the others.
-    fn place_of(&self, name: &[u8]) -> Option<usize> {
+    fn place_of(&self, name: &[u8]) -> Option<usize>
+        ensures { result ≡ place_of self.now name.now }
+    {
         self.names.get_index_of(name)
     }
 }
@@ -68,7 +72,10 @@ impl<'s, 'a> Model for Scope<'s, 'a> {
 
 impl<'s, 'a> Scope<'s, 'a> {
     /// The number of the variable with this name, which has to be in scope.
-    pub fn number(&self, name: &[u8]) -> Result<u32, Unread> {
+    #[tactic(auto, unfolding(crate::specs::Names::in_scope))]
+    pub fn number(&self, name: &[u8]) -> Result<u32, Unread>
+        ensures { Reads (λ number. number) result (in_scope self.now name.now) }
+    {
         let Some(place) = self.names.place_of(name) else {
             return Err(Unread::Syntax);
         };

@@ -72,12 +72,15 @@ pub fn closed<'t>(text: &'t [u8], close: &[u8]) -> Option<(&'t [u8], &'t [u8])>
 }
 
 /// Reads a variable between these marks, where the first of them stands.
+#[tactic(auto, unfolding(crate::specs::Patterns::marked_at))]
 fn marked<'a>(
     names: &mut Names<'a>,
     opening: &[u8],
     closing: &[u8],
     text: &'a [u8],
-) -> Result<(Option<u32>, &'a [u8]), Unread> {
+) -> Result<(Option<u32>, &'a [u8]), Unread>
+    ensures { Reads (λ x. (x.0, names.new, x.1.now)) result (marked_at opening.now closing.now names.old text.now) }
+{
     let Some(inside) = behind(text, opening) else {
         return Ok((None, text));
     };
@@ -97,7 +100,10 @@ fn closed_number(text: &[u8]) -> Option<(i64, &[u8])>
 }
 
 /// Reads a number or a variable, and the bracket that closes it.
-fn int<'a>(names: &mut Names<'a>, text: &'a [u8]) -> Result<(Option<IntPart>, &'a [u8]), Unread> {
+#[tactic(auto, unfolding(crate::specs::Patterns::int_at))]
+fn int<'a>(names: &mut Names<'a>, text: &'a [u8]) -> Result<(Option<IntPart>, &'a [u8]), Unread>
+    ensures { Reads (λ x. (x.0, names.new, x.1.now)) result (int_at names.old text.now) }
+{
     if begins_number(text) {
         let Some((number, rest)) = closed_number(text) else {
             return Err(Unread::Syntax);
@@ -111,10 +117,13 @@ fn int<'a>(names: &mut Names<'a>, text: &'a [u8]) -> Result<(Option<IntPart>, &'
 }
 
 /// Reads the AuxInt, where one stands.
+#[tactic(auto, unfolding(crate::specs::Patterns::int_part_at))]
 fn int_part<'a>(
     names: &mut Names<'a>,
     text: &'a [u8],
-) -> Result<(Option<IntPart>, &'a [u8]), Unread> {
+) -> Result<(Option<IntPart>, &'a [u8]), Unread>
+    ensures { Reads (λ x. (x.0, names.new, x.1.now)) result (int_part_at names.old text.now) }
+{
     match behind(text, b"[") {
         Some(inside) => int(names, skip_blanks(inside)),
         None => Ok((None, text)),
@@ -122,7 +131,10 @@ fn int_part<'a>(
 }
 
 /// Reads a node up to its arguments, its bracket being open.
-fn head<'a>(names: &mut Names<'a>, text: &'a [u8]) -> Result<(Front, &'a [u8]), Unread> {
+#[tactic(auto, unfolding(crate::specs::Patterns::front_at))]
+fn head<'a>(names: &mut Names<'a>, text: &'a [u8]) -> Result<(Front, &'a [u8]), Unread>
+    ensures { Reads (λ x. (x.0, names.new, x.1.now)) result (front_at names.old text.now) }
+{
     let Some((op, rest)) = op(text) else {
         return Err(Unread::Syntax);
     };
@@ -134,13 +146,16 @@ fn head<'a>(names: &mut Names<'a>, text: &'a [u8]) -> Result<(Front, &'a [u8]), 
 
 /// Reads a node, whose bracket is open.
 #[cycle(pattern)]
+#[tactic(auto, unfolding(crate::specs::Patterns::node_at))]
 fn node<'a>(
     alloc: Global,
     names: &mut Names<'a>,
     levels: Levels,
     var: Option<u32>,
     text: &'a [u8],
-) -> Result<(Pattern, &'a [u8]), Unread> {
+) -> Result<(Pattern, &'a [u8]), Unread>
+    ensures { Reads (λ x. (x.0, names.new, x.1.now)) result (node_at (pattern_at levels.left) var names.old text.now) }
+{
     let (Front { op, ty, int, aux }, rest) = head(names, text)?;
     let (args, rest) = patterns(alloc, names, levels, rest)?;
     Ok((
@@ -163,7 +178,9 @@ fn patterns<'a>(
     names: &mut Names<'a>,
     levels: Levels,
     text: &'a [u8],
-) -> Result<(Items<Pattern>, &'a [u8]), Unread> {
+) -> Result<(Items<Pattern>, &'a [u8]), Unread>
+    ensures { Reads (λ x. (x.0, names.new, x.1.now)) result (patterns_at (pattern_at levels.left) (length text.now) names.old text.now) }
+{
     let mut args = Vec::new(alloc);
     let mut rest = text;
     for turn in 0..text.len() {
@@ -179,13 +196,16 @@ fn patterns<'a>(
 
 /// Reads the node that a variable names.
 #[cycle(pattern)]
+#[tactic(auto, unfolding(crate::specs::Patterns::named_node_at))]
 fn named_node<'a>(
     alloc: Global,
     names: &mut Names<'a>,
     levels: Levels,
     var: u32,
     text: &'a [u8],
-) -> Result<(Pattern, &'a [u8]), Unread> {
+) -> Result<(Pattern, &'a [u8]), Unread>
+    ensures { Reads (λ x. (x.0, names.new, x.1.now)) result (named_node_at (pattern_at levels.left) var names.old text.now) }
+{
     match behind(text, b"(") {
         Some(rest) => node(alloc, names, levels, Some(var), rest),
         None => Err(Unread::Syntax),
@@ -194,12 +214,15 @@ fn named_node<'a>(
 
 /// Reads a variable, or the node that it names.
 #[cycle(pattern)]
+#[tactic(auto, unfolding(crate::specs::Patterns::variable_or_node_at))]
 fn variable_or_node<'a>(
     alloc: Global,
     names: &mut Names<'a>,
     levels: Levels,
     text: &'a [u8],
-) -> Result<(Pattern, &'a [u8]), Unread> {
+) -> Result<(Pattern, &'a [u8]), Unread>
+    ensures { Reads (λ x. (x.0, names.new, x.1.now)) result (variable_or_node_at (pattern_at levels.left) names.old text.now) }
+{
     let Some((name, rest)) = variable(text) else {
         return Err(Unread::Syntax);
     };
@@ -217,19 +240,24 @@ fn pattern<'a>(
     names: &mut Names<'a>,
     levels: Levels,
     text: &'a [u8],
-) -> Result<(Pattern, &'a [u8]), Unread> {
+) -> Result<(Pattern, &'a [u8]), Unread>
+    ensures { Reads (λ x. (x.0, names.new, x.1.now)) result (pattern_at levels.left names.old text.now) }
+{
     let inner = levels.inner()?;
     pattern_in(alloc, names, inner, text)
 }
 
 /// Reads `_`, a node, or a variable and the node that it names.
 #[cycle(pattern)]
+#[tactic(auto, unfolding(crate::specs::Patterns::pattern_in))]
 fn pattern_in<'a>(
     alloc: Global,
     names: &mut Names<'a>,
     inner: Levels,
     text: &'a [u8],
-) -> Result<(Pattern, &'a [u8]), Unread> {
+) -> Result<(Pattern, &'a [u8]), Unread>
+    ensures { Reads (λ x. (x.0, names.new, x.1.now)) result (pattern_in (pattern_at inner.left) names.old text.now) }
+{
     if let Some(rest) = any(text) {
         return Ok((Pattern::Any, rest));
     }
@@ -246,12 +274,15 @@ fn is_node(pattern: &Pattern) -> bool
 }
 
 /// Reads the left tree of a rule, which is a node.
+#[tactic(auto, unfolding(crate::specs::Patterns::left_at))]
 pub fn left<'a>(
     alloc: Global,
     names: &mut Names<'a>,
     levels: Levels,
     text: &'a [u8],
-) -> Result<(Pattern, &'a [u8]), Unread> {
+) -> Result<(Pattern, &'a [u8]), Unread>
+    ensures { Reads (λ x. (x.0, names.new, x.1.now)) result (left_at levels.left names.old text.now) }
+{
     let (left, rest) = pattern(alloc, names, levels, text)?;
     if is_node(&left) {
         Ok((left, rest))

@@ -22,7 +22,9 @@ fn conditions<'t>(
     scope: &Scope,
     levels: Levels,
     text: &'t [u8],
-) -> Result<(Items<Expr>, &'t [u8]), Unread> {
+) -> Result<(Items<Expr>, &'t [u8]), Unread>
+    ensures { Reads (λ x. (x.0, x.1.now)) result (conditions (expr_at scope.now levels.left) (length text.now) text.now) }
+{
     let mut conds = Vec::new(alloc);
     let mut rest = text;
     for turn in 0..text.len() {
@@ -37,7 +39,10 @@ fn conditions<'t>(
 }
 
 /// Reads the right tree behind `=>`, which ends the rule.
-fn right(alloc: Global, scope: &Scope, levels: Levels, text: &[u8]) -> Result<Build, Unread> {
+#[tactic(auto, unfolding(crate::specs::Rules::right_at))]
+fn right(alloc: Global, scope: &Scope, levels: Levels, text: &[u8]) -> Result<Build, Unread>
+    ensures { Reads (λ right. right) result (right_at scope.now levels.left text.now) }
+{
     let Some(inside) = behind(text, b"=>") else {
         return Err(Unread::Syntax);
     };
@@ -60,7 +65,10 @@ fn first_in_right(left: &Pattern) -> usize
 }
 
 /// Reads `sexpr [&& conditions] => sexpr`.
-fn written(alloc: Global, text: &[u8]) -> Result<Rule, Unread> {
+#[tactic(auto, unfolding(crate::specs::Rules::written_at))]
+fn written(alloc: Global, text: &[u8]) -> Result<Rule, Unread>
+    ensures { Reads (λ rule. rule) result (written_at text.now) }
+{
     let levels = Levels::of(text.len());
     let mut names = Names::new(alloc);
     let (left, rest) = left(alloc, &mut names, levels, text)?;
@@ -78,7 +86,10 @@ fn written(alloc: Global, text: &[u8]) -> Result<Rule, Unread> {
 }
 
 /// Reads a rule without groups.
-pub fn rule(alloc: Global, text: &[u8]) -> Result<Rule, Unread> {
+#[tactic(auto, unfolding(crate::specs::Rules::rule_at))]
+pub fn rule(alloc: Global, text: &[u8]) -> Result<Rule, Unread>
+    ensures { Reads (λ rule. rule) result (rule_at text.now) }
+{
     match whole(text) {
         Some((from, to)) => Ok(whole_rule(alloc, from, to)?),
         None => written(alloc, text),

@@ -98,6 +98,7 @@ fn first_argument(kind: AuxKind) -> u32
 /// So many variables from this number on.
 fn patterns(alloc: Global, first: u32, count: u8) -> Result<Items<Pattern>, AllocError>
     requires { first ≤ 1 }
+    ensures { IfOk result (λ args. args ≡ map var (numbers_from first count)) }
 {
     let mut args = Vec::with_capacity(alloc, usize::from(count))?;
     for place in 0..count {
@@ -109,6 +110,7 @@ fn patterns(alloc: Global, first: u32, count: u8) -> Result<Items<Pattern>, Allo
 /// The same on the right side.
 fn builds(alloc: Global, first: u32, count: u8) -> Result<Items<Build>, AllocError>
     requires { first ≤ 1 }
+    ensures { IfOk result (λ args. args ≡ map named (numbers_from first count)) }
 {
     let mut args = Vec::with_capacity(alloc, usize::from(count))?;
     for place in 0..count {
@@ -118,7 +120,10 @@ fn builds(alloc: Global, first: u32, count: u8) -> Result<Items<Build>, AllocErr
 }
 
 /// The rule that replaces an op by another, whose parts are those of the first.
-pub fn whole_rule(alloc: Global, from: Op, to: Op) -> Result<Rule, AllocError> {
+#[tactic(auto, unfolding(crate::specs::Rules::whole_rule, crate::specs::Rules::arguments))]
+pub fn whole_rule(alloc: Global, from: Op, to: Op) -> Result<Rule, AllocError>
+    ensures { IfOk result (λ rule. rule ≡ whole_rule from to) }
+{
     let kind = op_info(from).aux;
     let first = first_argument(kind);
     let left = Pattern::Node {

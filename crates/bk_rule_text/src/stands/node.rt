@@ -1,7 +1,8 @@
 //! The ops of a rule, their parts and their counts of arguments.
 ghost use Rattle.std.specs.Prelude.{◌≡◌};
 ghost use Rattle.bk_ops.specs.Table.{info_of};
-ghost use Rattle.bk_rule_text.specs.Stands.{is_left_out, fits_count, fits_parts, may_stand};
+ghost use Rattle.std.specs.List.{list_all};
+ghost use Rattle.bk_rule_text.specs.Stands.{is_left_out, fits_count, fits_parts, may_stand, pattern_stands, build_stands, has_its_parts};
 
 use bk_ops::{AuxKind, Family, Op, op_info};
 use bk_rule::{Build, Pattern, Rule};
@@ -42,8 +43,11 @@ fn may_stand(op: Op, count: usize, int: bool, aux: bool) -> bool
     !is_left_out(op) && has_count(op, count) && has_parts(op, int, aux)
 }
 
+/// Whether each op of a left tree may stand there.
 #[cycle(pattern)]
-fn pattern_stands(pattern: &Pattern) -> bool {
+fn pattern_stands(pattern: &Pattern) -> bool
+    ensures { result ≡ pattern_stands pattern.now }
+{
     match pattern {
         Pattern::Any | Pattern::Var(_) => true,
         Pattern::Node {
@@ -60,7 +64,9 @@ fn pattern_stands(pattern: &Pattern) -> bool {
 }
 
 #[cycle(pattern)]
-fn patterns_stand(patterns: &[Pattern]) -> bool {
+fn patterns_stand(patterns: &[Pattern]) -> bool
+    ensures { result ≡ list_all pattern_stands patterns.now }
+{
     for pattern in patterns {
         if !pattern_stands(pattern) {
             return false;
@@ -69,8 +75,11 @@ fn patterns_stand(patterns: &[Pattern]) -> bool {
     true
 }
 
+/// Whether each op of a right tree may stand there.
 #[cycle(build)]
-fn build_stands(build: &Build) -> bool {
+fn build_stands(build: &Build) -> bool
+    ensures { result ≡ build_stands build.now }
+{
     match build {
         Build::Var(_) => true,
         Build::Node {
@@ -87,7 +96,9 @@ fn build_stands(build: &Build) -> bool {
 }
 
 #[cycle(build)]
-fn builds_stand(builds: &[Build]) -> bool {
+fn builds_stand(builds: &[Build]) -> bool
+    ensures { result ≡ list_all build_stands builds.now }
+{
     for build in builds {
         if !build_stands(build) {
             return false;
@@ -97,6 +108,9 @@ fn builds_stand(builds: &[Build]) -> bool {
 }
 
 /// Whether each op of the rule may stand there, with its arguments and parts.
-pub fn has_its_parts(rule: &Rule) -> bool {
+#[tactic(auto, unfolding(crate::specs::Stands::has_its_parts))]
+pub fn has_its_parts(rule: &Rule) -> bool
+    ensures { result ≡ has_its_parts rule.now }
+{
     pattern_stands(&rule.left) && build_stands(&rule.right)
 }

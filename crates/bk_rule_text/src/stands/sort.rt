@@ -1,8 +1,8 @@
 //! What the variables of a rule stand for, by the places where they stand.
-ghost use Rattle.std.specs.Prelude.{◌≡◌, ◌++◌, OnOk};
-ghost use Rattle.bk_rule_text.specs.Stands.{sort_of_aux, said as noted, variable_of_int, variable_of_type, sort_of_operand};
+ghost use Rattle.std.specs.Prelude.{◌≡◌, ◌++◌, IfOk, OnOk};
+ghost use Rattle.bk_rule_text.specs.Stands.{sort_of_aux, variable_of_int, variable_of_type, sort_of_operand, same_sort, agree, pattern_sorts, patterns_sorts, expr_sorts, exprs_sorts, int_sorts, build_sorts, builds_sorts, rule_sorts};
 
-use crate::stands::agree::agrees;
+use crate::stands::said::{agrees, note};
 use bk_ops::{AuxKind, Family, Op, op_info};
 use bk_rule::{Build, Expr, Fun, IntPart, Pattern, Rule, TyPart};
 use std::alloc::{AllocError, Global};
@@ -33,16 +33,6 @@ fn sort_of_aux(op: Op) -> Sort
     }
 }
 
-/// Notes the sort of a variable, where one stands.
-fn note(said: &mut Vec<(u32, Sort)>, variable: Option<u32>, sort: Sort) -> Result<(), AllocError>
-    ensures { OnOk result (said.new.items ≡ said.old.items ++ noted variable sort) }
-{
-    match variable {
-        Some(variable) => Ok(said.push((variable, sort))?),
-        None => Ok(()),
-    }
-}
-
 fn variable_of_int(int: Option<IntPart>) -> Option<u32>
     ensures { result ≡ variable_of_int int }
 {
@@ -52,7 +42,8 @@ fn variable_of_int(int: Option<IntPart>) -> Option<u32>
     }
 }
 
-fn variable_of_type(ty: Option<TyPart>) -> Option<u32>
+/// The variable of a right tree's type.
+pub fn variable_of_type(ty: Option<TyPart>) -> Option<u32>
     ensures { result ≡ variable_of_type ty }
 {
     match ty {
@@ -61,8 +52,11 @@ fn variable_of_type(ty: Option<TyPart>) -> Option<u32>
     }
 }
 
+/// Notes the variables of a left tree.
 #[cycle(pattern)]
-fn note_pattern(said: &mut Vec<(u32, Sort)>, pattern: &Pattern) -> Result<(), AllocError> {
+fn note_pattern(said: &mut Vec<(u32, Sort)>, pattern: &Pattern) -> Result<(), AllocError>
+    ensures { OnOk result (said.new.items ≡ said.old.items ++ pattern_sorts pattern.now) }
+{
     match pattern {
         Pattern::Any => Ok(()),
         Pattern::Var(variable) => note(said, Some(*variable), Sort::Value),
@@ -84,7 +78,10 @@ fn note_pattern(said: &mut Vec<(u32, Sort)>, pattern: &Pattern) -> Result<(), Al
 }
 
 #[cycle(pattern)]
-fn note_patterns(said: &mut Vec<(u32, Sort)>, patterns: &[Pattern]) -> Result<(), AllocError> {
+#[tactic(auto, unfolding(crate::specs::Stands::patterns_sorts))]
+fn note_patterns(said: &mut Vec<(u32, Sort)>, patterns: &[Pattern]) -> Result<(), AllocError>
+    ensures { OnOk result (said.new.items ≡ said.old.items ++ patterns_sorts patterns.now) }
+{
     for pattern in patterns {
         note_pattern(said, pattern)?;
     }
@@ -105,7 +102,9 @@ fn sort_of_operand(fun: Fun) -> Sort
 
 /// Notes the variables of an expression, which stands where this sort is asked for.
 #[cycle(expr)]
-fn note_expr(said: &mut Vec<(u32, Sort)>, expr: &Expr, sort: Sort) -> Result<(), AllocError> {
+fn note_expr(said: &mut Vec<(u32, Sort)>, expr: &Expr, sort: Sort) -> Result<(), AllocError>
+    ensures { OnOk result (said.new.items ≡ said.old.items ++ expr_sorts expr.now sort) }
+{
     match expr {
         Expr::Number(_) => Ok(()),
         Expr::Var(variable) => note(said, Some(*variable), sort),
@@ -114,22 +113,30 @@ fn note_expr(said: &mut Vec<(u32, Sort)>, expr: &Expr, sort: Sort) -> Result<(),
 }
 
 #[cycle(expr)]
-fn note_exprs(said: &mut Vec<(u32, Sort)>, exprs: &[Expr], sort: Sort) -> Result<(), AllocError> {
+#[tactic(auto, unfolding(crate::specs::Stands::exprs_sorts))]
+fn note_exprs(said: &mut Vec<(u32, Sort)>, exprs: &[Expr], sort: Sort) -> Result<(), AllocError>
+    ensures { OnOk result (said.new.items ≡ said.old.items ++ exprs_sorts exprs.now sort) }
+{
     for expr in exprs {
         note_expr(said, expr, sort)?;
     }
     Ok(())
 }
 
-fn note_int(said: &mut Vec<(u32, Sort)>, int: &Option<Expr>) -> Result<(), AllocError> {
+fn note_int(said: &mut Vec<(u32, Sort)>, int: &Option<Expr>) -> Result<(), AllocError>
+    ensures { OnOk result (said.new.items ≡ said.old.items ++ int_sorts int.now) }
+{
     match int {
         Some(expr) => note_expr(said, expr, Sort::Int),
         None => Ok(()),
     }
 }
 
+/// Notes the variables of a right tree.
 #[cycle(build)]
-fn note_build(said: &mut Vec<(u32, Sort)>, build: &Build) -> Result<(), AllocError> {
+fn note_build(said: &mut Vec<(u32, Sort)>, build: &Build) -> Result<(), AllocError>
+    ensures { OnOk result (said.new.items ≡ said.old.items ++ build_sorts build.now) }
+{
     match build {
         Build::Var(variable) => note(said, Some(*variable), Sort::Value),
         Build::Node {
@@ -148,7 +155,10 @@ fn note_build(said: &mut Vec<(u32, Sort)>, build: &Build) -> Result<(), AllocErr
 }
 
 #[cycle(build)]
-fn note_builds(said: &mut Vec<(u32, Sort)>, builds: &[Build]) -> Result<(), AllocError> {
+#[tactic(auto, unfolding(crate::specs::Stands::builds_sorts))]
+fn note_builds(said: &mut Vec<(u32, Sort)>, builds: &[Build]) -> Result<(), AllocError>
+    ensures { OnOk result (said.new.items ≡ said.old.items ++ builds_sorts builds.now) }
+{
     for build in builds {
         note_build(said, build)?;
     }
@@ -156,7 +166,10 @@ fn note_builds(said: &mut Vec<(u32, Sort)>, builds: &[Build]) -> Result<(), Allo
 }
 
 /// What is said of the variables of a rule.
-fn sorts(alloc: Global, rule: &Rule) -> Result<Vec<(u32, Sort)>, AllocError> {
+#[tactic(auto, unfolding(crate::specs::Stands::rule_sorts))]
+fn sorts(alloc: Global, rule: &Rule) -> Result<Vec<(u32, Sort)>, AllocError>
+    ensures { IfOk result (λ said. said.items ≡ rule_sorts rule.now) }
+{
     let mut said = Vec::new(alloc);
     note_pattern(&mut said, &rule.left)?;
     note_exprs(&mut said, rule.conds.as_slice(), Sort::Int)?;
@@ -165,6 +178,8 @@ fn sorts(alloc: Global, rule: &Rule) -> Result<Vec<(u32, Sort)>, AllocError> {
 }
 
 /// Whether each variable stands for one sort of thing.
-pub fn has_one_sort_each(alloc: Global, rule: &Rule) -> Result<bool, AllocError> {
+pub fn has_one_sort_each(alloc: Global, rule: &Rule) -> Result<bool, AllocError>
+    ensures { IfOk result (λ ok. ok ≡ agree same_sort (rule_sorts rule.now)) }
+{
     agrees(alloc, &sorts(alloc, rule)?)
 }

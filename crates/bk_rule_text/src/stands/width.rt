@@ -1,100 +1,94 @@
 //! Widths in extra rules.
-use crate::stands::agree::agrees;
-use bk_ops::{Class, Family, Op, Target, Ty, op_info, width};
+ghost use Rattle.std.specs.Prelude.{◌≡◌, ◌++◌, IfOk, OnOk};
+ghost use Rattle.bk_rule_text.specs.Stands.{agree, variable_of_type};
+ghost use Rattle.bk_rule_text.specs.Widths.{same_class, pattern_fits, patterns_fit, pattern_classes, patterns_classes, type_part_fits, head_fits, build_fits, builds_fit, build_classes, builds_classes, class_of, fits};
+
+use crate::stands::class::{class_at, op_fits, result_of, type_fits};
+use crate::stands::said::{agrees, note};
+use crate::stands::sort::variable_of_type;
+use bk_ops::{Class, Op};
 use bk_rule::{Build, Pattern, Rule, TyPart};
 use std::alloc::{AllocError, Global};
 
-/// Whether an extra rule may have the op: one that both targets have, and whose widths stand in its name or that is
-/// on bool.
-fn is_extra(op: Op) -> bool {
-    match op.family {
-        Family::Const
-        | Family::Add
-        | Family::Sub
-        | Family::Mul
-        | Family::And
-        | Family::Or
-        | Family::Xor
-        | Family::Neg
-        | Family::Com
-        | Family::Lsh
-        | Family::Rsh
-        | Family::RshU => true,
-        Family::Eq
-        | Family::Neq
-        | Family::Less
-        | Family::LessU
-        | Family::Leq
-        | Family::LeqU
-        | Family::SignExt
-        | Family::ZeroExt
-        | Family::Trunc => true,
-        Family::ConstBool
-        | Family::EqB
-        | Family::NeqB
-        | Family::AndB
-        | Family::OrB
-        | Family::Not
-        | Family::CvtBoolToUint8 => true,
-        Family::Div | Family::Divu | Family::Mod | Family::Modu => op.a != 64,
-        Family::Hmul | Family::Hmulu => op.a == 32,
-        _ => false,
-    }
-}
-
-/// What the place of an argument takes, of an op that an extra rule may have.
-fn class_at(op: Op, place: usize) -> Class {
-    match op.family {
-        Family::EqB | Family::NeqB | Family::AndB | Family::OrB | Family::Not => Class::Bool,
-        Family::CvtBoolToUint8 => Class::Bool,
-        Family::Lsh | Family::Rsh | Family::RshU if place == 1 => Class::Number(op.b),
-        _ => Class::Number(op.a),
-    }
-}
-
-fn result_of(op: Op) -> Class {
-    op_info(op).result
-}
-
-/// Whether a type has on both targets the width of this class.
-fn type_fits(ty: Ty, class: Class) -> bool {
-    match class {
-        Class::Bool => ty == Ty::Bool,
-        Class::Number(bits) => {
-            ty != Ty::Bool
-                && width(ty, Target::Arm) == u32::from(bits)
-                && width(ty, Target::Riscv64) == u32::from(bits)
-        }
-        _ => false,
-    }
-}
-
-/// Notes the class of a variable, where one stands.
-fn note(
-    said: &mut Vec<(u32, Class)>,
-    variable: Option<u32>,
-    class: Class,
-) -> Result<(), AllocError> {
-    match variable {
-        Some(variable) => Ok(said.push((variable, class))?),
-        None => Ok(()),
-    }
-}
-
-/// Whether the left tree has ops of extra rules alone, each with the class that its place takes. Notes the classes of
-/// its variables.
+/// Whether each op of a left tree is one that an extra rule may have, and gives what its place takes.
 #[cycle(pattern)]
-fn pattern_fits(
+fn pattern_fits(pattern: &Pattern, class: Class) -> bool
+    ensures { result ≡ pattern_fits pattern.now class }
+{
+    match pattern {
+        Pattern::Any | Pattern::Var(_) => true,
+        Pattern::Node { op, args, .. } => {
+            op_fits(*op, class) && patterns_fit(*op, args.as_slice())
+        }
+    }
+}
+
+#[cycle(pattern)]
+fn patterns_fit(op: Op, patterns: &[Pattern]) -> bool
+    ensures { result ≡ patterns_fit op 0 patterns.now }
+{
+    for (place, pattern) in patterns.iter().enumerate() {
+        if !pattern_fits(pattern, class_at(op, place)) {
+            return false;
+        }
+    }
+    true
+}
+
+/// Whether the type of a node fits its class.
+fn type_part_fits(ty: Option<TyPart>, class: Class) -> bool
+    ensures { result ≡ type_part_fits ty class }
+{
+    match ty {
+        Some(TyPart::Is(ty)) => type_fits(ty, class),
+        None | Some(TyPart::Var(_)) => true,
+    }
+}
+
+/// Whether the op and the type of a right tree's node fit the place where it stands.
+fn head_fits(op: Op, ty: Option<TyPart>, class: Class) -> bool
+    ensures { result ≡ head_fits op ty class }
+{
+    op_fits(op, class) && type_part_fits(ty, class)
+}
+
+/// The same of a right tree, whose types have to fit too.
+#[cycle(build)]
+fn build_fits(build: &Build, class: Class) -> bool
+    ensures { result ≡ build_fits build.now class }
+{
+    match build {
+        Build::Var(_) => true,
+        Build::Node { op, ty, args, .. } => {
+            head_fits(*op, *ty, class) && builds_fit(*op, args.as_slice())
+        }
+    }
+}
+
+#[cycle(build)]
+fn builds_fit(op: Op, builds: &[Build]) -> bool
+    ensures { result ≡ builds_fit op 0 builds.now }
+{
+    for (place, build) in builds.iter().enumerate() {
+        if !build_fits(build, class_at(op, place)) {
+            return false;
+        }
+    }
+    true
+}
+
+/// Notes the classes of the variables of values and types in a left tree, which stands where this class is asked for.
+#[cycle(classes)]
+fn note_pattern(
     said: &mut Vec<(u32, Class)>,
     pattern: &Pattern,
     class: Class,
-) -> Result<bool, AllocError> {
+) -> Result<(), AllocError>
+    ensures { OnOk result (said.new.items ≡ said.old.items ++ pattern_classes pattern.now class) }
+{
     match pattern {
-        Pattern::Any => Ok(true),
-        Pattern::Var(variable) => {
-            note(said, Some(*variable), class)?;
-            Ok(true)
-        }
+        Pattern::Any => Ok(()),
+        Pattern::Var(variable) => note(said, Some(*variable), class),
         Pattern::Node {
             var,
             op,
@@ -104,92 +98,80 @@ fn pattern_fits(
         } => {
             note(said, *var, class)?;
             note(said, *ty, class)?;
-            if is_extra(*op) && result_of(*op) == class {
-                patterns_fit(said, *op, args.as_slice())
-            } else {
-                Ok(false)
-            }
+            note_patterns(said, *op, args.as_slice())
         }
     }
 }
 
-#[cycle(pattern)]
-fn patterns_fit(
+#[cycle(classes)]
+#[tactic(auto, unfolding(crate::specs::Widths::patterns_classes))]
+fn note_patterns(
     said: &mut Vec<(u32, Class)>,
     op: Op,
     patterns: &[Pattern],
-) -> Result<bool, AllocError> {
+) -> Result<(), AllocError>
+    ensures { OnOk result (said.new.items ≡ said.old.items ++ patterns_classes op 0 patterns.now) }
+{
     for (place, pattern) in patterns.iter().enumerate() {
-        if !pattern_fits(said, pattern, class_at(op, place))? {
-            return Ok(false);
-        }
+        note_pattern(said, pattern, class_at(op, place))?;
     }
-    Ok(true)
+    Ok(())
 }
 
-/// Whether the type of a node fits its class. Notes the class of its variable.
-fn type_part_fits(
-    said: &mut Vec<(u32, Class)>,
-    ty: Option<TyPart>,
-    class: Class,
-) -> Result<bool, AllocError> {
-    match ty {
-        None => Ok(true),
-        Some(TyPart::Is(ty)) => Ok(type_fits(ty, class)),
-        Some(TyPart::Var(variable)) => {
-            note(said, Some(variable), class)?;
-            Ok(true)
-        }
-    }
-}
-
-/// The same of the right tree, whose types have to fit too.
-#[cycle(build)]
-fn build_fits(
-    said: &mut Vec<(u32, Class)>,
-    build: &Build,
-    class: Class,
-) -> Result<bool, AllocError> {
+/// The same of a right tree.
+#[cycle(made_classes)]
+fn note_build(said: &mut Vec<(u32, Class)>, build: &Build, class: Class) -> Result<(), AllocError>
+    ensures { OnOk result (said.new.items ≡ said.old.items ++ build_classes build.now class) }
+{
     match build {
-        Build::Var(variable) => {
-            note(said, Some(*variable), class)?;
-            Ok(true)
-        }
+        Build::Var(variable) => note(said, Some(*variable), class),
         Build::Node { op, ty, args, .. } => {
-            if is_extra(*op) && result_of(*op) == class && type_part_fits(said, *ty, class)? {
-                builds_fit(said, *op, args.as_slice())
-            } else {
-                Ok(false)
-            }
+            note(said, variable_of_type(*ty), class)?;
+            note_builds(said, *op, args.as_slice())
         }
     }
 }
 
-#[cycle(build)]
-fn builds_fit(said: &mut Vec<(u32, Class)>, op: Op, builds: &[Build]) -> Result<bool, AllocError> {
+#[cycle(made_classes)]
+#[tactic(auto, unfolding(crate::specs::Widths::builds_classes))]
+fn note_builds(said: &mut Vec<(u32, Class)>, op: Op, builds: &[Build]) -> Result<(), AllocError>
+    ensures { OnOk result (said.new.items ≡ said.old.items ++ builds_classes op 0 builds.now) }
+{
     for (place, build) in builds.iter().enumerate() {
-        if !build_fits(said, build, class_at(op, place))? {
-            return Ok(false);
-        }
+        note_build(said, build, class_at(op, place))?;
     }
-    Ok(true)
+    Ok(())
 }
 
 /// The class of what a left tree as a whole stands for.
-fn class_of(pattern: &Pattern) -> Class {
+fn class_of(pattern: &Pattern) -> Class
+    ensures { result ≡ class_of pattern.now }
+{
     match pattern {
         Pattern::Node { op, .. } => result_of(*op),
         Pattern::Any | Pattern::Var(_) => Class::ByType,
     }
 }
 
-/// Whether all widths of an extra rule fit.
-pub fn fits(alloc: Global, rule: &Rule) -> Result<bool, AllocError> {
-    let class = class_of(&rule.left);
+/// Whether the classes of each variable of a rule, whose roots are of this class, are the same.
+fn has_one_class_each(alloc: Global, rule: &Rule, class: Class) -> Result<bool, AllocError>
+    ensures { IfOk result (λ ok. ok ≡ agree same_class (pattern_classes rule.now.left class ++ build_classes rule.now.right class)) }
+{
     let mut said = Vec::new(alloc);
-    Ok(
-        pattern_fits(&mut said, &rule.left, class)?
-            && build_fits(&mut said, &rule.right, class)?
-            && agrees(alloc, &said)?,
-    )
+    note_pattern(&mut said, &rule.left, class)?;
+    note_build(&mut said, &rule.right, class)?;
+    agrees(alloc, &said)
+}
+
+/// Whether all widths of an extra rule fit.
+#[tactic(auto, unfolding(crate::specs::Widths::fits))]
+pub fn fits(alloc: Global, rule: &Rule) -> Result<bool, AllocError>
+    ensures { IfOk result (λ ok. ok ≡ fits rule.now) }
+{
+    let class = class_of(&rule.left);
+    if pattern_fits(&rule.left, class) && build_fits(&rule.right, class) {
+        has_one_class_each(alloc, rule, class)
+    } else {
+        Ok(false)
+    }
 }

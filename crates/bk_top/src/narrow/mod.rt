@@ -8,6 +8,3 @@ pub mod routine;
 
 pub use package::{Function, Value};
 pub use reader::{are_distinct, read_narrow};
-
-#[cfg(test)]
-mod tests;

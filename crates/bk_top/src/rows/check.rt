@@ -32,7 +32,7 @@ fn counts_line(alloc: Global, pkg: &Package) -> Result<String, AllocError>
 
 /// The counts of the package that the text spells.
 pub fn check(alloc: Global, text: &[u8], target: Target) -> Result<Vec<u8>, Refusal>
-    ensures made { IfOk result (λ bytes. Checks bytes.items) }
+    ensures made { IfOk result (λ bytes. Checks target text.now bytes.items) }
     ensures cause { IfErr result (Spoils (check_row target) text.now) }
 {
     let package = package_of(alloc, text, target)?;

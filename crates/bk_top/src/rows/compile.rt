@@ -6,7 +6,7 @@ ghost use Rattle.bk_top.specs.Narrow.{IsNarrow, IsWellFormed, view};
 ghost use Rattle.bk_top.specs.Sums.{is_sum, is_sums};
 ghost use Rattle.bk_top.specs.Pieces.{narrow_piece, func_piece, name_in, AreNamed};
 ghost use Rattle.bk_top.specs.Commands.{compile_row};
-ghost use Rattle.bk_top.specs.Answer.{IsNarrowText, Translates, TranslatesPackage, Compiles, Spoils};
+ghost use Rattle.bk_top.specs.Answer.{IsNarrowText, Translates, TranslatesSums, TranslatesPackage, Compiles, Spoils};
 
 use crate::narrow::routine::routine_of_narrow;
 use crate::narrow::{Function, read_narrow};
@@ -92,7 +92,7 @@ fn narrow(alloc: Global, text: &[u8]) -> Result<Option<Vec<u8>>, Memory>
 /// The file of the functions of a package of sums; None where no object holds their names.
 fn package_file(alloc: Global, pkg: &Package) -> Result<Option<Vec<u8>>, Memory>
     requires { IsTrue (is_sums pkg.now) }
-    ensures made { IfOk result (λ made. IfSome made (λ bytes. TranslatesPackage bytes.items)) }
+    ensures made { IfOk result (λ made. IfSome made (λ bytes. TranslatesSums pkg.now bytes.items)) }
     ensures none { IfOk result (λ made. IfNone made (AreNamed (map (func_piece pkg.now.names) pkg.now.funcs) → ⊥)) }
 {
     one_word_each();
@@ -107,7 +107,7 @@ fn package_file(alloc: Global, pkg: &Package) -> Result<Option<Vec<u8>>, Memory>
 /// The file of the package that a text spells.
 fn wide(alloc: Global, text: &[u8]) -> Result<Vec<u8>, Refusal>
     requires { IsNarrowText text.now → ⊥ }
-    ensures made { IfOk result (λ bytes. TranslatesPackage bytes.items) }
+    ensures made { IfOk result (λ bytes. TranslatesPackage text.now bytes.items) }
     ensures cause { IfErr result (Spoils compile_row text.now) }
 {
     let package = package_of(alloc, text, Target::Riscv64)?;

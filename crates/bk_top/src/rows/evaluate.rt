@@ -1,10 +1,11 @@
 //! `eval TARGET NAME BOUND ARG..`.
 
-ghost use Rattle.std.specs.Prelude.{◌≡◌, ◌++◌, ◌^◌, ◌<◌, None, true, slice_get, map, string_bytes, IfOk, IfErr, OnOk};
-ghost use Rattle.bk_mean.specs.Eval.{function_named, is_name, fit_at};
+ghost use Rattle.std.specs.Prelude.{◌≡◌, ◌++◌, ◌^◌, ◌<◌, ℕ, None, Some, true, slice_get, map, string_bytes, IfOk, IfErr, OnOk};
+ghost use Rattle.bk_mean.specs.Eval.{function_named, is_name, fit_at, AreFormed};
+ghost use Rattle.bk_mean.specs.Seen.{seen_outcome as meant};
 ghost use Rattle.bk_top.specs.Commands.{evaluate_row, seen_call};
 ghost use Rattle.bk_top.specs.Outcomes.{seen_outcome};
-ghost use Rattle.bk_top.specs.Evaluating.{seen_end, rounded, filled, window_of, IsEnd, Evaluates};
+ghost use Rattle.bk_top.specs.Evaluating.{rounded, filled, window_of, told_outcome, told, ending, line_of, Evaluates};
 ghost use Rattle.bk_top.specs.Answer.{Spoils};
 
 use crate::command::call::Call;
@@ -69,7 +70,7 @@ fn window_of(alloc: Global, vars: &[Var]) -> Result<Vec<u8>, AllocError>
 
 /// The evaluator's outcome, to be told.
 fn outcome_of(end: bk_mean::Outcome) -> Outcome
-    ensures { seen_outcome result ≡ seen_end end }
+    ensures { seen_outcome result ≡ told_outcome (meant end) }
 {
     match end {
         bk_mean::Outcome::Returned(numbers) => Outcome::Returned(numbers),
@@ -90,6 +91,7 @@ fn end_of(
 ) -> Result<(Outcome, Vec<u8>), Memory>
     requires there { function_named pkg.now name.now ≡ None → ⊥ }
     requires fit { fit_at pkg.now target (function_named pkg.now name.now) args.now ≡ true }
+    ensures { IfOk result (λ end. (place : ℕ) → function_named pkg.now name.now ≡ Some place → AreFormed pkg.now → (seen_outcome end.0, end.1.items) ≡ told (ending pkg.now target place args.now bound)) }
 {
     let window = window_of(alloc, &pkg.vars)?;
     let frames = vec![in alloc; FRAME; pkg.funcs.len()]?;
@@ -115,7 +117,7 @@ fn line(
 ) -> Result<String, Memory>
     requires there { function_named pkg.now name.now ≡ None → ⊥ }
     requires fit { fit_at pkg.now target (function_named pkg.now name.now) args.now ≡ true }
-    ensures { IfOk result (λ line. IsEnd target sig.now (string_bytes line)) }
+    ensures { IfOk result (λ line. (place : ℕ) → function_named pkg.now name.now ≡ Some place → AreFormed pkg.now → string_bytes line ≡ line_of target sig.now (told (ending pkg.now target place args.now bound))) }
 {
     let (outcome, window) = end_of(alloc, pkg, target, name, args, bound)?;
     Ok(outcome_line(alloc, target, &sig.results, &outcome, &window)?)
@@ -128,7 +130,7 @@ pub fn evaluate(
     target: Target,
     call: Call<'_>,
 ) -> Result<Vec<u8>, Refusal>
-    ensures made { IfOk result (λ bytes. Evaluates target (seen_call call.entry) bytes.items) }
+    ensures made { IfOk result (λ bytes. Evaluates target (seen_call call.entry) text.now bytes.items) }
     ensures cause { IfErr result (Spoils (evaluate_row target (seen_call call.entry)) text.now) }
 {
     let pkg = package_of(alloc, text, target)?;

@@ -1,7 +1,8 @@
 //! The input: its bytes, and the package that they spell.
 
-ghost use Rattle.std.specs.Prelude.{◌≡◌, ◌⊎◌, IfOk, IfErr, IfSome};
-ghost use Rattle.bk_top.specs.Answer.{IsReading, IsReaders};
+ghost use Rattle.std.specs.Prelude.{◌≡◌, Ok, IfOk, IfErr, IfSome};
+ghost use Rattle.bk_top.specs.Package.{ReadsAs};
+ghost use Rattle.bk_top.specs.Answer.{IsReading, IsReaders, StandsFor};
 
 use crate::refusal::Refusal;
 use bk_dump::{DumpError, read_package};
@@ -31,7 +32,7 @@ pub fn bytes_of<S: Source>(alloc: Global, input: &mut S, limit: usize) -> Result
 
 /// The reader's refusal.
 fn refusal_of(error: DumpError) -> Refusal
-    ensures { IsReaders result }
+    ensures { StandsFor result error }
 {
     match error {
         DumpError::Syntax { line } => Refusal::Syntax { line },
@@ -45,7 +46,8 @@ fn refusal_of(error: DumpError) -> Refusal
 
 /// The package that the text spells.
 pub fn package_of(alloc: Global, text: &[u8], target: Target) -> Result<Package, Refusal>
-    ensures { IfErr result IsReaders }
+    ensures read { IfOk result (λ pkg. ReadsAs text.now target (Ok pkg)) }
+    ensures cause { IfErr result (IsReaders text.now target) }
 {
     match read_package(alloc, text, target) {
         Ok(package) => Ok(package),

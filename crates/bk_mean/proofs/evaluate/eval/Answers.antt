@@ -1,26 +1,25 @@
-use Rattle.std.proofs.Common.{rules, ◌≡◌, ℕ, List, ap, sym, ◌∙◌, subst, arith, Some, None, length, get_or, ◌<◌, Bool, true, false}
+use Rattle.std.proofs.Common.{rules, ◌≡◌, ap, sym, ◌∙◌, subst, Some, get_or, true, false}
 use Rattle.std.specs.Prelude.{slice_get, slice_index}
 use Rattle.std.proofs.lemmas.Option.{slice_get-get_or}
 use Rattle.std.proofs.lemmas.List.Quantifiers.{position-Some}
 use Rattle.bk_func.specs.Records.{PackageRecord}
 use Rattle.bk_func.specs.Arguments.{fit}
-use Rattle.bk_func.specs.Meaning.{Outcome}
-use Rattle.bk_mean.specs.Eval.{function_named, is_name, fit_at, fit_in, program, EntersNone, end_of_none}
-use Rattle.bk_mean.specs.Seen.{seen_outcome}
-use Rattle.bk_mean.proofs.Entered.{enters_none}
+use Rattle.bk_func.specs.Meaning.{meaning}
+use Rattle.bk_mean.specs.Eval.{function_named, is_name, fit_at, fit_in, program, EntersNone}
 use Rattle.bk_mean.proofs.evaluate.eval.Goals as goal
+
+pub returns-in-Ok-clause-meant : goal.returns-in-Ok-clause-meant
+returns-in-Ok-clause-meant c = λ i e formed.
+    let k : function_named c.args.pkg.now c.args.name.now ≡ Some c.in-Some.place = sym c.in-Some.ensures in
+    let same : c.in-Some.place ≡ i = (let q = sym k ∙ e in cc) in
+    c.in-Ok.ensures.meant formed ∙ ap (λ x. meaning (program c.args.pkg.now c.args.target c.args.frames.now) x c.args.args.now c.args.window.now c.args.stack c.args.bound) same
 
 pub returns-in-Ok-clause-none_entered : goal.returns-in-Ok-clause-none_entered
 returns-in-Ok-clause-none_entered c = λ i e h.
     let k : function_named c.args.pkg.now c.args.name.now ≡ Some c.in-Some.place = sym c.in-Some.ensures in
     let same : c.in-Some.place ≡ i = (let q = sym k ∙ e in cc) in
-    let found = position-Some (λ f. is_name (slice_get c.args.pkg.now.names f.name) c.args.name.now) c.args.pkg.now.funcs i c.index-func.result.now e in
-    let here = position-Some (λ f. is_name (slice_get c.args.pkg.now.names f.name) c.args.name.now) c.args.pkg.now.funcs c.in-Some.place c.index-func.result.now k in
-    let r = c.in-Ok.ensures here.0 (subst (λ x. EntersNone c.args.bound c.args.stack (slice_index c.args.frames.now x)) (sym same) h) in
-    let a : seen_outcome c.in-Ok.answer.0 ≡ end_of_none c.args.stack (slice_index c.args.frames.now i) = r.0 ∙ ap (λ x. end_of_none c.args.stack (slice_index c.args.frames.now x)) same in
-    ap (λ (o : Outcome). (o, c.in-Ok.answer.1.items)) a
-    ∙ ap (λ (d : List ℕ). (end_of_none c.args.stack (slice_index c.args.frames.now i), d)) r.1
-    ∙ sym (enters_none (program c.args.pkg.now c.args.target c.args.frames.now) i _ c.args.args.now c.args.window.now c.args.stack c.args.bound (slice_get-get_or c.args.pkg.now.funcs i c.index-func.result.now found.0) h)
+    c.in-Ok.ensures.none_entered (subst (λ x. EntersNone c.args.bound c.args.stack (slice_index c.args.frames.now x)) (sym same) h)
+    ∙ ap (λ x. meaning (program c.args.pkg.now c.args.target c.args.frames.now) x c.args.args.now c.args.window.now c.args.stack c.args.bound) same
 
 pub returns-in-Err-clause-bad_args : goal.returns-in-Err-clause-bad_args
 returns-in-Err-clause-bad_args c =

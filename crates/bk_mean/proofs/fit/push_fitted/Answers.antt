@@ -1,4 +1,4 @@
-use Rattle.std.proofs.Common.{arith, ◌≤◌, length, ◌++◌}
+use Rattle.std.proofs.Common.{arith, ◌++◌}
 use Rattle.std.proofs.lemmas.Bool.Decides.{nat_tests}
 use Rattle.bk_func.specs.Words.{fitted as meant_fitted}
 use Rattle.bk_mean.proofs.Fits.{none_more}

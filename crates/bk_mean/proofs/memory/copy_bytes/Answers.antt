@@ -1,6 +1,5 @@
-use Rattle.std.proofs.Common.{sym, ◌∙◌, ap, ◌-◌, ◌+◌, ◌≤◌, ◌<◌, take, drop, ◌++◌, length, Some, None, List, ℕ, ◌≡◌, arith, Bool, false, subst}
+use Rattle.std.proofs.Common.{sym, ◌∙◌, ap, ◌-◌, ◌+◌, take, drop, ◌++◌, Some, None, ◌≡◌, arith, false, subst}
 use Rattle.std.specs.Prelude.{if◌then◌else◌}
-use Rattle.std.specs.List.{copy_within}
 use Rattle.bk_num.specs.Bytes.{is_within}
 use Rattle.bk_num.specs.Memory.{data_base}
 use Rattle.bk_num.proofs.Bytes.{bounds}

@@ -1,4 +1,4 @@
-use Rattle.std.proofs.Common.{sym, ◌∙◌, ap, ◌-◌, ◌+◌, take, drop, replicate, ◌++◌, length, Some, None, List, ℕ, ◌≡◌, arith}
+use Rattle.std.proofs.Common.{sym, ◌∙◌, ap, ◌-◌, ◌+◌, take, drop, replicate, ◌++◌, length, Some, None, ◌≡◌, arith}
 use Rattle.std.specs.Prelude.{if◌then◌else◌}
 use Rattle.bk_num.specs.Bytes.{is_within}
 use Rattle.bk_num.specs.Memory.{data_base}

@@ -1,4 +1,4 @@
-use Rattle.std.proofs.Common.{◌≡◌, ℕ, List, ap, sym, ◌∙◌, refl, arith, length, ◌<◌, Option, Some, None, get_or, true}
+use Rattle.std.proofs.Common.{◌≡◌, ℕ, List, ap, ◌∙◌, refl, arith, length, ◌<◌, Option, Some, None, get_or, true}
 use Rattle.std.specs.Prelude.{◌==◌, position, if◌then◌else◌}
 use Rattle.std.specs.Ordering.{nat_cmp}
 use Rattle.std.specs.Option.{is_some}

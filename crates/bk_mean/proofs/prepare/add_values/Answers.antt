@@ -1,4 +1,4 @@
-use Rattle.std.proofs.Common.{◌≡◌, ◌+◌, ◌++◌, ◌∷◌, [], take, get_or, length, ◌<◌, arith, subst, sym}
+use Rattle.std.proofs.Common.{◌+◌, ◌++◌, take, length, ◌<◌, arith, subst, sym}
 use Rattle.bk_mean.specs.Ready.{AreReadyValues}
 use Rattle.bk_mean.proofs.Prepared.{ready_more}
 use Rattle.bk_mean.proofs.prepare.add_values.Goals as goal

@@ -1,4 +1,4 @@
-use Rattle.std.proofs.Common.{rules, ◌≡◌, sym, ◌∙◌, ap, List, Some, None, get_or}
+use Rattle.std.proofs.Common.{rules, ◌≡◌, sym, ◌∙◌, ap, List, Some, get_or}
 use Rattle.std.specs.Prelude.{◌==◌}
 use Rattle.bk_func.specs.Records.{BlockRecord, FuncRecord}
 use Rattle.bk_func.specs.Edits.{block_of, nth_place}

@@ -1,6 +1,4 @@
-use Rattle.std.proofs.Common.{rules, ◌≡◌, sym, ◌∙◌, subst, ap, refl, Some, ◌<◌, length, arith}
-use Rattle.std.specs.Prelude.{slice_index}
-use Rattle.std.proofs.lemmas.Grind.{common_steps}
+use Rattle.std.proofs.Common.{rules, ◌≡◌, sym, ◌∙◌, subst, refl, Some, ◌<◌, length, arith}
 use Rattle.bk_func.specs.Numbers.{natural}
 use Rattle.bk_func.specs.Meaning.{done_by, gives}
 use Rattle.bk_mean.specs.declared.role.Effect.{Effect}
@@ -11,8 +9,8 @@ use Rattle.bk_mean.proofs.Inputs.{arg_is}
 use Rattle.bk_mean.proofs.Acts.{act_store, act_zeros, act_move, act_out, act_ret}
 use Rattle.bk_mean.proofs.step.act.Goals as goal
 
-pub returns-in-Store : goal.returns-in-Store
-returns-in-Store c = λ p m calls a w t r h.
+pub returns-in-Store-clause-effect : goal.returns-in-Store-clause-effect
+returns-in-Store-clause-effect c = λ p m calls a w t r h.
     let k = subst (λ (x : Effect). IsActed (seen_effect x) c.args.target c.args.value.now) c.in-Store.is h in
     let f : c.arg-first.result ≡ arg_number c.args.numbers.now c.args.ready.now.args.items 0 = search rules in
     let s : c.arg-second.result ≡ arg_number c.args.numbers.now c.args.ready.now.args.items 1 = search rules in
@@ -21,19 +19,19 @@ returns-in-Store c = λ p m calls a w t r h.
     (act_store p m calls c.args.value.now (with_words a c.args.words.now) w c.args.target c.arg-first.result c.arg-second.result c.args.window.now.items c.store.new.window.items c.store.result t
     (f ∙ arg_is c.args.numbers.now c.args.ready.now.args.items m c.args.value.now.args 0 r zero_lt)
     (s ∙ arg_is c.args.numbers.now c.args.ready.now.args.items m c.args.value.now.args 1 r k.0)
-    (c.store.ensures (with_words a c.args.words.now) w k.1))
+    (c.store.ensures.done (with_words a c.args.words.now) w k.1))
 
-pub returns-in-Zeros : goal.returns-in-Zeros
-returns-in-Zeros c = λ p m calls a w t r h.
+pub returns-in-Zeros-clause-effect : goal.returns-in-Zeros-clause-effect
+returns-in-Zeros-clause-effect c = λ p m calls a w t r h.
     let k = subst (λ (x : Effect). IsActed (seen_effect x) c.args.target c.args.value.now) c.in-Zeros.is h in
     let f : c.arg-first.result ≡ arg_number c.args.numbers.now c.args.ready.now.args.items 0 = search rules in
     subst (λ (x : Effect). done_by (Some (seen_effect x)) calls p m c.args.value.now (with_words a c.args.words.now) (seeing w c.args.window.now.items) ≡ after_run c.zeros.result (with_words a c.args.words.now) (seeing w c.zeros.new.window.items)) (sym c.in-Zeros.is)
     (act_zeros p m calls c.args.value.now (with_words a c.args.words.now) w c.args.target c.arg-first.result c.args.window.now.items c.zeros.new.window.items c.zeros.result t
     (f ∙ arg_is c.args.numbers.now c.args.ready.now.args.items m c.args.value.now.args 0 r k)
-    (c.zeros.ensures (with_words a c.args.words.now) w))
+    (c.zeros.ensures.done (with_words a c.args.words.now) w))
 
-pub returns-in-Move : goal.returns-in-Move
-returns-in-Move c = λ p m calls a w t r h.
+pub returns-in-Move-clause-effect : goal.returns-in-Move-clause-effect
+returns-in-Move-clause-effect c = λ p m calls a w t r h.
     let k = subst (λ (x : Effect). IsActed (seen_effect x) c.args.target c.args.value.now) c.in-Move.is h in
     let f : c.arg-first.result ≡ arg_number c.args.numbers.now c.args.ready.now.args.items 0 = search rules in
     let s : c.arg-second.result ≡ arg_number c.args.numbers.now c.args.ready.now.args.items 1 = search rules in
@@ -42,10 +40,10 @@ returns-in-Move c = λ p m calls a w t r h.
     (act_move p m calls c.args.value.now (with_words a c.args.words.now) w c.args.target c.arg-first.result c.arg-second.result c.args.window.now.items c.copy.new.window.items c.copy.result t
     (f ∙ arg_is c.args.numbers.now c.args.ready.now.args.items m c.args.value.now.args 0 r zero_lt)
     (s ∙ arg_is c.args.numbers.now c.args.ready.now.args.items m c.args.value.now.args 1 r k)
-    (c.copy.ensures (with_words a c.args.words.now) w))
+    (c.copy.ensures.done (with_words a c.args.words.now) w))
 
-pub returns-in_ok-set-in-OutWord : goal.returns-in_ok-set-in-OutWord
-returns-in_ok-set-in-OutWord c = λ p m calls a w t r h.
+pub returns-in_ok-set-in-OutWord-clause-effect : goal.returns-in_ok-set-in-OutWord-clause-effect
+returns-in_ok-set-in-OutWord-clause-effect c = λ p m calls a w t r h.
     let k = subst (λ (x : Effect). IsActed (seen_effect x) c.args.target c.args.value.now) c.in-OutWord.is h in
     let f : c.arg-first.result ≡ arg_number c.args.numbers.now c.args.ready.now.args.items 0 = search rules in
     let n : c.natural.result ≡ natural c.args.value.now.int = search rules in
@@ -54,8 +52,8 @@ returns-in_ok-set-in-OutWord c = λ p m calls a w t r h.
     (f ∙ arg_is c.args.numbers.now c.args.ready.now.args.items m c.args.value.now.args 0 r k)
     c.in_ok-set-in-OutWord.ensures refl)
 
-pub returns-in_ok-set-in-RetWord : goal.returns-in_ok-set-in-RetWord
-returns-in_ok-set-in-RetWord c = λ p m calls a w t r h.
+pub returns-in_ok-set-in-RetWord-clause-effect : goal.returns-in_ok-set-in-RetWord-clause-effect
+returns-in_ok-set-in-RetWord-clause-effect c = λ p m calls a w t r h.
     let k = subst (λ (x : Effect). IsActed (seen_effect x) c.args.target c.args.value.now) c.in-RetWord.is h in
     let f : c.arg-first.result ≡ arg_number c.args.numbers.now c.args.ready.now.args.items 0 = search rules in
     let n : c.natural-in-RetWord.result ≡ natural c.args.value.now.int = search rules in

@@ -7,8 +7,8 @@ use Rattle.bk_mean.specs.Machine.{copy_fault}
 use Rattle.bk_mean.proofs.Acts.{moved_stops}
 use Rattle.bk_mean.proofs.step.copy.Goals as goal
 
-pub returns-in-Some : goal.returns-in-Some
-returns-in-Some c = λ a w.
+pub returns-in-Some-clause-done : goal.returns-in-Some-clause-done
+returns-in-Some-clause-done c = λ a w.
     let n : c.natural-count.result ≡ natural c.args.value.now.int = search rules in
     let z : (natural c.args.value.now.int == 0) ≡ false = ap (λ k. k == 0) (sym n) ∙ ne_eqb c.natural-count.result 0 c.if-count-eq0.false in
     let t : c.trunc.result ≡ c.args.to % 2 ^ word_width c.args.target = search rules in

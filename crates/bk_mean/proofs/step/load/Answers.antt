@@ -1,5 +1,5 @@
 use Rattle.std.proofs.Common.{rules, ◌≡◌, ◌+◌, ◌%◌, ◌^◌, sym, ◌∙◌, ap, Some, None, arith}
-use Rattle.std.specs.Prelude.{slice_index, slice_set}
+use Rattle.std.specs.Prelude.{slice_set}
 use Rattle.bk_num.specs.Word.{residue}
 use Rattle.bk_num.specs.Bytes.{load_in}
 use Rattle.bk_num.specs.Memory.{data_base}

@@ -1,4 +1,4 @@
-use Rattle.std.proofs.Common.{rules, ◌≡◌, sym, ◌∙◌, subst, ap, map}
+use Rattle.std.proofs.Common.{rules, ◌≡◌, sym, ◌∙◌, subst, map}
 use Rattle.std.specs.Prelude.{slice_index}
 use Rattle.bk_ops.specs.Values.{pure_value}
 use Rattle.bk_func.specs.Numbers.{number_by}

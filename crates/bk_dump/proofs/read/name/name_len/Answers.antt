@@ -1,5 +1,5 @@
 use Rattle.std.proofs.Common.{rules, sym, arith}
-use Rattle.bk_dump.specs.Parts.{is_name_byte}
+use Rattle.bk_dump.specs.Words.{is_name_byte}
 use Rattle.std.proofs.lemmas.List.Sums.{prefix_len_is}
 use Rattle.std.proofs.lemmas.Bool.Decides.{nat_tests}
 use Rattle.std.proofs.lemmas.Grind.{common_steps}

@@ -1,9 +1,8 @@
 use Rattle.std.proofs.Common.{rules, ◌≡◌, ap, sym, ◌∙◌, arith, Some, None, suc, length}
-use Rattle.std.specs.Prelude.{◌==◌, position}
+use Rattle.std.specs.Prelude.{◌==◌}
 use Rattle.std.specs.Ordering.{nat_cmp}
 use Rattle.std.specs.BTreeMap.{get}
 use Rattle.bk_num.specs.Memory.{data_base}
-use Rattle.bk_mean.specs.Symbols.{starts_from}
 use Rattle.bk_mean.proofs.Firsts.{place_some, place_none, length-starts}
 use Rattle.bk_mean.proofs.symbols.Symbols.var.Goals as goal
 

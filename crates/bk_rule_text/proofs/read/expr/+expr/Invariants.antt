@@ -1,4 +1,5 @@
-use Rattle.std.proofs.Common.{◌+◌, ◌*◌}
+use Rattle.std.proofs.Common.{◌≡◌, ◌+◌, ◌*◌, ◌-◌, length}
+use Rattle.bk_rule_text.specs.Exprs.{operator_at, operand_at, tighter_at, chain}
 use Rattle.bk_rule_text.proofs.Measures.{rank}
 use Rattle.bk_rule_text.proofs.read.expr.+expr.Given as goal
 
@@ -31,3 +32,8 @@ decreases-function l = 16 * l.levels.left + 12
 
 abbrev pub decreases-operand_in : goal.decreases-operand_in
 decreases-operand_in l = 16 * l.inner.left + 13
+
+abbrev pub invariant-chain_on-loop-turn : goal.invariant-chain_on-loop-turn
+invariant-chain_on-loop-turn l =
+    let operand = tighter_at (operand_at l.scope l.levels.left) l.level in
+    chain (operator_at l.level) operand (length l.text - l.turn) l.whole l.rest ≡ chain (operator_at l.level) operand (length l.text) l.fn.left l.text

@@ -1,4 +1,6 @@
-use Rattle.std.proofs.Common.{◌+◌, ◌*◌}
+use Rattle.std.proofs.Common.{◌≡◌, ◌+◌, ◌*◌, ◌-◌, length}
+use Rattle.bk_rule_text.specs.Patterns.{pattern_at, patterns_at}
+use Rattle.bk_rule_text.proofs.Loops.{behind_those}
 use Rattle.bk_rule_text.proofs.read.pattern.+pattern.Given as goal
 
 abbrev pub decreases-pattern : goal.decreases-pattern
@@ -18,3 +20,7 @@ decreases-variable_or_node l = 8 * l.levels.left + 4
 
 abbrev pub decreases-pattern_in : goal.decreases-pattern_in
 decreases-pattern_in l = 8 * l.inner.left + 5
+
+abbrev pub invariant-patterns-loop-turn : goal.invariant-patterns-loop-turn
+invariant-patterns-loop-turn l =
+    behind_those l.args.items (patterns_at (pattern_at l.levels.left) (length l.text - l.turn) l.names l.rest) ≡ patterns_at (pattern_at l.levels.left) (length l.text) l.fn.names l.text

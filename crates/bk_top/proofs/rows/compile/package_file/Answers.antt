@@ -34,7 +34,6 @@ returns-clause-made c =
     let are = sums_are_pieces c.one_word_each.ensures.word pkg.names pkg.funcs sums named in
     let file : c.in_ok-file_of.field-0.items ≡ file_of (object_of pieces) = c.in_ok-file_of.ensures ∙ ap (λ ps. file_of (object_of ps)) (c.deref-4.ensures.value ∙ made) in
     record {
-      pkg = pkg;
       adds = c.requires;
       file = file;
       loads = subst (λ b. loaded b ≡ Ok (object_of pieces)) (sym file) (c.objects_and_files.ensures.written (object_of pieces) (object_is pieces are) (object_typed pieces are));

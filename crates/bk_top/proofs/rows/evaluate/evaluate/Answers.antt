@@ -4,9 +4,10 @@ use Rattle.bk_func.specs.Records.{SigRecord, FuncRecord, PackageRecord}
 use Rattle.bk_func.specs.Arguments.{fit}
 use Rattle.bk_mean.specs.Eval.{function_named, fit_in, fit_at}
 use Rattle.bk_top.specs.Arguments.{Gives}
-use Rattle.bk_top.specs.Outcomes.{outcome_line}
+use Rattle.bk_top.specs.Evaluating.{line_of, told, ending}
 use Rattle.bk_top.proofs.Calls.{gives_fit}
 use Rattle.bk_top.proofs.Named.{got}
+use Rattle.bk_top.proofs.Told.{read_formed}
 use Rattle.bk_top.proofs.rows.evaluate.evaluate.Goals as goal
 
 pub line-requires-clause-fit : goal.line-requires-clause-fit
@@ -36,15 +37,16 @@ returns-in-Ok-clause-made c =
     let types : c.deref.result.now ≡ func.sig.args = c.deref.ensures.value ∙ ap (λ (g : SigRecord). g.args) c.sig.view_is ∙ ap (λ (f : FuncRecord). f.sig.args) c.behind-pkg.view_is in
     record {
       pkg = pkg;
+      reads = c.in_ok-pkg.ensures.read;
       place = place;
       func = func;
       named = sym (c.in-Some.ensures ∙ ap (function_named pkg) c.as_str-name.ensures.value);
       found = got pkg.funcs place func inside (c.index.ensures ∙ ap (λ fs. get_or fs place func) funcs);
       args = c.in-Ok-Some.args.items;
       given = subst (λ ts. Gives c.args.target ts (map string_bytes c.args.call.args.now) c.in-Ok-Some.args.items) types (rw c.in-Ok-Some.field-0-is at c.in-Ok-Some.ensures.found);
-      told = (
-        c.in-Ok.ensures.0,
-        c.in-Ok.ensures.1,
-        ap (λ v. v.items) c.into_bytes.ensures.value ∙ c.in-Ok.ensures.2 ∙ ap (λ (f : FuncRecord). outcome_line c.args.target f.sig.results c.in-Ok.ensures.0 c.in-Ok.ensures.1) c.behind-pkg.view_is,
-      );
+      tells =
+          ap (λ v. v.items) c.into_bytes.ensures.value
+          ∙ c.in-Ok.ensures place (sym c.in-Some.ensures) (read_formed c.args.text.now c.args.target pkg c.in_ok-pkg.ensures.read)
+          ∙ ap (λ (f : FuncRecord). line_of c.args.target f.sig (told (ending pkg c.args.target place c.deref-2.result.now c.args.call.bound))) c.behind-pkg.view_is
+          ∙ ap (λ ns. line_of c.args.target func.sig (told (ending pkg c.args.target place ns c.args.call.bound))) c.deref-2.ensures.value;
     }

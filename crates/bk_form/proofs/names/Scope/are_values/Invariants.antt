@@ -1,0 +1,7 @@
+use Rattle.std.proofs.Common.{take}
+use Rattle.std.specs.List.{All}
+use Rattle.bk_func.specs.Form.Parts.{IsValueNumber}
+use Rattle.bk_form.proofs.names.Scope.are_values.Given as goal
+
+abbrev pub invariant-loop-id : goal.invariant-loop-id
+invariant-loop-id l = All (IsValueNumber l.self.func.now) (take l.id-index l.ids)

@@ -1,0 +1,10 @@
+use Rattle.std.proofs.Common.{◌∙◌, sym, ap}
+use Rattle.std.specs.Option.{is_some}
+use Rattle.bk_form.proofs.Symbols.{block_number}
+use Rattle.bk_form.proofs.names.Scope.is_block.Goals as goal
+
+pub returns : goal.returns
+returns c =
+    let e = c.is_some.ensures ∙ ap is_some c.block.ensures in
+    let (to, from) = block_number _ _ c.args.id c.requires.numbers in
+    ((λ t. to (sym e ∙ t)), (λ h. e ∙ from h))

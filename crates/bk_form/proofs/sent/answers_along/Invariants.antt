@@ -1,0 +1,10 @@
+use Rattle.std.proofs.Common.{length}
+use Rattle.bk_form.specs.Names.{measure}
+use Rattle.bk_form.specs.Sent.{Passes, IsReachedBy, AreAnswers, IsClear}
+use Rattle.bk_form.proofs.sent.answers_along.Given as goal
+
+abbrev pub invariant-loop-place : goal.invariant-loop-place
+invariant-loop-place l = record {
+  clear : IsClear (length l.steps) l.search;
+  answers : AreAnswers l.flow.scope.func.now (IsReachedBy (measure l.flow.scope) l.flow.scope.func.now l.steps l.place) (Passes (measure l.flow.scope) l.flow.scope.func.now l.question) l.answers.items;
+}

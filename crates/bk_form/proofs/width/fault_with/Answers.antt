@@ -1,0 +1,28 @@
+use Rattle.std.proofs.Common.{◌∙◌, sym, ap}
+use Rattle.bk_func.specs.Form.Parts.{HasRange}
+use Rattle.bk_func.specs.Records.{BlockRecord, ValueRecord}
+use Rattle.bk_ops.specs.Table.{info_of}
+use Rattle.bk_form.specs.Names.{measure}
+use Rattle.bk_form.proofs.Finding.{holds_more, holds_in, found, not_found, item_in}
+use Rattle.bk_form.proofs.width.fault_with.Goals as goal
+
+pub fault_in-fault-requires-clause-block : goal.fault_in-fault-requires-clause-block
+fault_in-fault-requires-clause-block c =
+    item_in c.block-item.result (c.deref-block-items.ensures.value ∙ ap (λ v. v.blocks) c.func.view_is) c.loop-block-test.true c.block-item.is
+
+pub returns-then-is_some : goal.returns-then-is_some
+returns-then-is_some c =
+    let f = c.args.scope.now.func.now in
+    let same = c.deref-block-items.ensures.value ∙ ap (λ v. v.blocks) c.func.view_is in
+    found (λ (b : BlockRecord). Unit {0}) (λ (b : BlockRecord) (v : ValueRecord). HasRange (measure c.args.scope.now) f v (info_of v.op).aux) f same c.loop-block.invariant c.block-item.result c.loop-block-test.true c.block-item.is
+    c.fault_in-fault.result c.fault_in-fault.ensures (sym c.is_some.ensures ∙ c.if-is_some.true)
+
+pub loop-block-preserved : goal.loop-block-preserved
+loop-block-preserved c =
+    let f = c.args.scope.now.func.now in
+    let same = c.deref-block-items.ensures.value ∙ ap (λ v. v.blocks) c.func.view_is in
+    holds_more same c.loop-block.invariant c.block-item.result c.loop-block-test.true c.block-item.is
+    (not_found (λ (b : BlockRecord). Unit {0}) (λ (b : BlockRecord) (v : ValueRecord). HasRange (measure c.args.scope.now) f v (info_of v.op).aux) c.block-item.result c.fault_in-fault.result c.fault_in-fault.ensures (sym c.is_some.ensures ∙ c.if-is_some.false))
+
+pub returns : goal.returns
+returns c = holds_in (c.deref-block-items.ensures.value ∙ ap (λ v. v.blocks) c.func.view_is) c.loop-block.invariant c.loop-block-test.false

@@ -1,0 +1,38 @@
+-- What values name of memory, by numbers and by places.
+use Rattle.std.specs.Prelude.{◌≡◌, ◌↔◌, ℕ, ◌<◌, List, length, Option, None, Some, MatchOption, slice_index_or, ◌⊎◌}
+use Rattle.std.specs.List.{Contains, slice_get}
+use Rattle.bk_ops.specs.declared.family.Family.TheVariants.{Copy, InitMem, MakeResult, ResWord, SelectN, StaticLECall}
+use Rattle.bk_ops.specs.declared.types.Ty.TheVariants.{Mem}
+use Rattle.bk_func.specs.Records.{ValueRecord, BlockRecord, FuncRecord}
+use Rattle.bk_func.specs.Form.Text.{IsEntry}
+use Rattle.bk_func.specs.Form.States.{CopiesMemory, NamesAt, Names, IsFirstInit}
+use Rattle.bk_form.specs.Places.{NodeRecord, nodes_of}
+
+-- the value names a state by its first argument
+abbrev pub NamesFirst : ValueRecord → Type 0
+NamesFirst v = CopiesMemory v ⊎ (v.op.family ≡ SelectN) ⊎ (v.op.family ≡ ResWord)
+
+-- the number stands where the value names a state
+abbrev pub NamesBy : ValueRecord → ℕ → Type 0
+NamesBy v n = (k : ℕ) × NamesAt v k × (slice_get v.args k ≡ Some n)
+
+-- the place is that of the state that the value names
+abbrev pub NamesPlace : FuncRecord → ValueRecord → ℕ → Type 0
+NamesPlace f v p = (m : NodeRecord) × (slice_get (nodes_of f) p ≡ Some m) × ((s : ℕ) → Names f v s ↔ (s ≡ m.value.id))
+
+-- and that of the one that it names, if it names any
+abbrev pub NamesIf : FuncRecord → ValueRecord → Option ℕ → Type 0
+NamesIf f v o = MatchOption o ((s : ℕ) → ¬ Names f v s) (NamesPlace f v)
+
+-- the number is that of the first `InitMem` of the entry, if there is one
+abbrev pub IsFirstOf : FuncRecord → Option ℕ → Type 0
+IsFirstOf f o =
+    MatchOption o ((b : BlockRecord) (v : ValueRecord) → ¬ IsFirstInit f b v)
+    (λ n. (b : BlockRecord) × (v : ValueRecord) × IsFirstInit f b v × (v.id ≡ n))
+
+-- the value gives memory, and the first states give it but for the one with the number
+abbrev pub GivesMemory : ValueRecord → Type 0
+GivesMemory v = ¬ (v.op.family ≡ Copy) × ¬ (v.op.family ≡ MakeResult) × ((v.op.family ≡ StaticLECall) ⊎ (v.ty ≡ Mem))
+
+abbrev pub GivesState : ValueRecord → Option ℕ → Type 0
+GivesState v initial = GivesMemory v × (v.op.family ≡ InitMem → initial ≡ Some v.id)

@@ -1,0 +1,24 @@
+-- Which values come before which, by places.
+use Rattle.std.specs.Prelude.{◌≡◌, ℕ, ◌<◌, ◌≤◌, List, length, Some, slice_index}
+use Rattle.std.specs.List.{slice_get}
+use Rattle.bk_func.specs.Records.{ValueRecord, BlockRecord, FuncRecord}
+use Rattle.bk_func.specs.Form.Before.{ComesBefore, Precedes}
+use Rattle.bk_form.specs.Places.{NodeRecord, node_at, nodes_of}
+use Rattle.bk_form.specs.Search.{IsEdge, Path}
+
+-- edges lead from the first place to the second, one at least
+abbrev pub Leads : List (List ℕ) → ℕ → ℕ → Type 0
+Leads es p q = (t : ℕ) × IsEdge es p t × t < length es × Path es (length es) t q
+
+-- edges lead from the places of values to those of the values that they come before, and to no others; past the
+-- places of values there may be others, at which edges meet
+pub record IsOrder (f : FuncRecord) (es : List (List ℕ)) : Type 0 where
+  pub size : length (nodes_of f) ≤ length es
+  pub sound : (p q i : ℕ) (b : BlockRecord) (u : ValueRecord) (o : NodeRecord) → slice_get f.blocks i ≡ Some b → slice_get (nodes_of f) p ≡ Some (node_at i u)
+      → slice_get (nodes_of f) q ≡ Some o → Leads es p q → Precedes f b u o.value
+  pub whole : (p q i : ℕ) (b : BlockRecord) (u v : ValueRecord) → slice_get f.blocks i ≡ Some b → slice_get (nodes_of f) p ≡ Some (node_at i u)
+      → slice_get (nodes_of f) q ≡ Some (node_at i v) → ComesBefore f b u v → Leads es p q
+
+-- each edge leads to a place of a higher rank
+abbrev pub Rises : List (List ℕ) → List ℕ → Type 0
+Rises es ranks = (p q : ℕ) → IsEdge es p q → slice_index ranks p < slice_index ranks q
