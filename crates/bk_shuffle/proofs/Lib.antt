@@ -1,0 +1,13 @@
+pub mod Entries
+pub mod Takers
+pub mod Freed
+pub mod Nexts
+pub mod Gathered
+pub mod Released
+pub mod Swapped
+pub mod Doing
+pub mod Whole
+pub mod Cycling
+pub mod Rounds
+pub mod Counting
+pub mod Total

@@ -1,0 +1,4 @@
+pub mod Sequence
+pub mod Left
+pub mod AtOnce
+pub mod Cycles
