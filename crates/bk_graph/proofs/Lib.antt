@@ -1,0 +1,4 @@
+pub mod Crossing
+pub mod Firsts
+pub mod Listed
+pub mod Splitting

@@ -1,0 +1,5 @@
+pub mod Clean
+pub mod Critical
+pub mod Given
+pub mod Layout
+pub mod Named

@@ -1,0 +1,18 @@
+//! Edits and orders of a function's blocks: clean, split critical edges, layout.
+#![tactic(auto)]
+
+mod cleaned;
+mod critical;
+mod graph;
+mod needed;
+mod order;
+mod places;
+mod rebuilt;
+mod settled;
+#[cfg(test)]
+mod tests;
+
+pub use bk_func::Memory;
+pub use cleaned::clean;
+pub use critical::split_critical;
+pub use order::layout;
