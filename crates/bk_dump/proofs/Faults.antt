@@ -6,14 +6,19 @@ use Rattle.bk_dump.specs.declared.read.errors.Fault.{Fault}
 use Rattle.bk_dump.specs.Trees.{FuncTree, ValueTree, LabelTree, VarTree, HeaderTree}
 use Rattle.bk_dump.specs.Drafts.{State, declares, is_number, are_numbers, is_reserved, is_declared, is_taken, value_fault, block_fault, var_fault, header_fault}
 
+-- of three tests the first one fails
+pub first : (a b c : Bool) (x y z : Fault) → cond a (Some x) (cond b (Some y) (cond c (Some z) None)) ≡ None → a ≡ false
+first true b c x y z h = absurd (cc)
+first false b c x y z h = refl
+
 -- of three tests the middle one fails
-middle : (a b c : Bool) (x y z : Fault) → cond a (Some x) (cond b (Some y) (cond c (Some z) None)) ≡ None → b ≡ false
+pub middle : (a b c : Bool) (x y z : Fault) → cond a (Some x) (cond b (Some y) (cond c (Some z) None)) ≡ None → b ≡ false
 middle true b c x y z h = absurd (cc)
 middle false true c x y z h = absurd (cc)
 middle false false c x y z h = refl
 
 -- of three tests the last one fails
-third : (a b c : Bool) (x y z : Fault) → cond a (Some x) (cond b (Some y) (cond c (Some z) None)) ≡ None → c ≡ false
+pub third : (a b c : Bool) (x y z : Fault) → cond a (Some x) (cond b (Some y) (cond c (Some z) None)) ≡ None → c ≡ false
 third true b c x y z h = absurd (cc)
 third false true c x y z h = absurd (cc)
 third false false true x y z h = absurd (cc)

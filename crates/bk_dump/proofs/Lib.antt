@@ -11,8 +11,6 @@ pub mod TextLines
 pub mod Pairs
 pub mod Each
 pub mod PackageLines
-pub mod Again
-pub mod SpelledTypes
 pub mod Sets
 pub mod Fresh
 pub mod Faults
@@ -20,16 +18,3 @@ pub mod Packages
 pub mod Whole
 pub mod Stages
 pub mod Judged
-pub mod Laying
-pub mod LaidNumbers
-pub mod LaidGroups
-pub mod LaidBlocks
-pub mod LaidEnds
-pub mod LaidLists
-pub mod LaidTypes
-pub mod LaidHeaders
-pub mod LaidVars
-pub mod LaidBeside
-pub mod LaidValues
-pub mod Declaring
-pub mod Forms

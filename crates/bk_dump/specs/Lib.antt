@@ -5,7 +5,6 @@ pub mod Types
 pub mod Trees
 pub mod Values
 pub mod Blocks
-pub mod Lines
 pub mod Headers
 pub mod Drafts
 pub mod Views
@@ -13,5 +12,4 @@ pub mod ClaimOrder
 pub mod Generate
 pub mod Print
 pub mod Resolved
-pub mod Declarations
 pub mod Texts

@@ -3,15 +3,10 @@
 
 mod claims;
 mod generator;
-mod laws;
 mod print;
 mod read;
 
 pub use claims::claim_order;
 pub use generator::generate;
-pub use laws::{
-    accepted_texts, ending_lines, function_lines, one_form, opening_lines, value_lines,
-    variable_lines,
-};
 pub use print::print_package;
 pub use read::{DumpError, Which, read_package};

@@ -11,14 +11,14 @@ use objects::ARM;
 use std::alloc::{AllocError, Global};
 use std::test::Fail;
 use texts::{
-    ADD, ADD_CODE, CONSTANT, DROPPED, LEQ, LOOP, NO_SUCH, STORE, SWAP, TURNED, TURNED_CODE, TWICE,
-    USE,
+    ADD, ADD_CODE, CONSTANT, DROPPED, EARLY, LEQ, LOOP, NO_SUCH, STORE, SWAP, TURNED, TURNED_CODE,
+    TWICE, UNSIGNED, USE,
 };
 
 /// The words, the input, and what they leave: the status and the texts on the output and on the error stream.
 struct Row(&'static str, &'static str, u8, &'static str, &'static str);
 
-const TEXTS: [Row; 50] = [
+const TEXTS: [Row; 57] = [
     Row("check arm", "", 0, "ok 0 functions 0 values\n", ""),
     Row("check riscv64", ADD, 0, "ok 1 functions 5 values\n", ""),
     Row(
@@ -50,6 +50,13 @@ const TEXTS: [Row; 50] = [
     Row("compile riscv64 1", TWICE, 3, "", "line 4: duplicate\n"),
     Row("compile riscv64 1", CONSTANT, 3, "", "not yet\n"),
     Row("compile riscv64 1", LOOP, 3, "", "not yet\n"),
+    Row("compile riscv64 1", SWAP, 3, "", "not yet\n"),
+    Row("compile riscv64 1", STORE, 3, "", "not yet\n"),
+    Row("compile riscv64 1", LEQ, 3, "", "not yet\n"),
+    Row("compile riscv64 1", EARLY, 3, "", "not yet\n"),
+    Row("compile riscv64 1", UNSIGNED, 3, "", "not yet\n"),
+    Row("compile riscv64 1", USE, 3, "", "function u: form use v4\n"),
+    Row("compile riscv64 1", NO_SUCH, 3, "", "undefined nosuch\n"),
     Row("compile mips 1", ADD, 2, "", "words\n"),
     Row("compile riscv64 2", ADD, 2, "", "words\n"),
     Row("compile riscv64 1 (Add64", ADD, 2, "", "words\n"),

@@ -1,7 +1,7 @@
--- The routine of a function that adds leaves what the function returns.
-use Rattle.std.proofs.Common.{◌≡◌, ◌≢◌, ℕ, ◌+◌, ◌%◌, ◌^◌, ◌<◌, ◌≤◌, List, [], ◌∷◌, ◌++◌, length, get_or, All, ap, ◌∙◌, sym, subst, refl, arith, true, Option, Some, None, inl, inr, ⊎_elim, append_assoc, append-nil, suc}
-use Rattle.std.specs.Prelude.{◌&&◌, ◌==◌, not, nat_lt, nat_le, count_by, Contains, slice_index, slice_set}
-use Rattle.std.specs.List.{list_any, list_all, filter_map, cons_option}
+-- The routine of a function that adds leaves what its values add up to.
+use Rattle.std.proofs.Common.{◌≡◌, ◌≢◌, ℕ, ◌+◌, ◌%◌, ◌^◌, ◌<◌, ◌≤◌, List, [], ◌∷◌, ◌++◌, length, All, ap, ◌∙◌, sym, subst, refl, arith, true, Option, Some, None, inl, inr, ⊎_elim, append_assoc, append-nil}
+use Rattle.std.specs.Prelude.{◌&&◌, nat_lt, count_by, Contains, slice_index, slice_set}
+use Rattle.std.specs.List.{filter_map, cons_option}
 use Rattle.std.proofs.lemmas.Bool.{cases_lt}
 use Rattle.std.proofs.lemmas.List.{length-set, length-replicate}
 use Rattle.std.proofs.lemmas.List.Sums.{count_by-le-length}
@@ -9,86 +9,52 @@ use Rattle.std.proofs.lemmas.List.Elements.{All-nil, All-cons, Contains-append_l
 use Rattle.bk_rv_isa.proofs.Steps.{same_reg, other_reg}
 use Rattle.bk_ops.specs.declared.family.Family.{Family}
 use Rattle.bk_ops.specs.declared.family.Family.TheVariants as op
-use Rattle.bk_func.specs.declared.parts.Aux.{Aux}
 use Rattle.bk_func.specs.declared.parts.Aux.TheVariants as aux
-use Rattle.bk_func.specs.Records.{ValueRecord, BlockRecord, FuncRecord, PackageRecord}
+use Rattle.bk_func.specs.Records.{ValueRecord, BlockRecord, FuncRecord}
 use Rattle.bk_top.specs.declared.routine.Action.{Action}
 use Rattle.bk_top.specs.declared.routine.Action.TheVariants.{Argument, Sum, Deliver}
-use Rattle.bk_top.specs.Sums.{is_int, returns, has_slot, is_result, names_slot, names_memory, is_argument, adds_slots, makes_slot, is_control, adds, all_add, has_sum_block, is_one_int, is_sum, is_sums}
-use Rattle.bk_top.specs.Routine.{IsWithin, FitsFrame, slot_of, argument_action, sum_action, result_action, action_at, values_in, routine_of}
-use Rattle.bk_top.specs.Meaning.{Returns}
+use Rattle.bk_top.specs.Routine.{IsWithin, FitsFrame, has_slot, slot_of, argument_action, sum_action, result_action, action_at, values_in, routine_of}
 use Rattle.bk_top.proofs.Effects.{all_result}
-use Rattle.bk_top.proofs.Counts.{no, both, not_true, and_false, and_true, same_test, test_same, less_test, test_less, not_less, at_most, count_lt, later, first_of_all, passing, failing}
+use Rattle.bk_top.proofs.Counts.{both, and_false, and_true, less_test, test_less, not_less, count_lt, later, first_of_all}
 use Rattle.bk_top.proofs.Start.{zeros}
 use Rattle.bk_top.proofs.Computes.{IsMeant}
 
--- a value before has a slot and this number
-abbrev Named : List ValueRecord → ℕ → Type 0
-Named before x = (w : ValueRecord) × Contains before w × (has_slot w.op.family ≡ true) × (w.id ≡ x)
+-- each value has a number, which its op says, and n is that of the result
+pub record Adds (f : FuncRecord) (args : List ℕ) (n : ℕ) : Type 0 where
+  pub at : ℕ → ℕ
+  pub argument : (v : ValueRecord) (place : ℕ) → Contains (values_in f.blocks) v → v.op.family ≡ op.Arg → v.aux ≡ aux.Arg place → at v.id ≡ slice_index args place
+  pub sum : (v : ValueRecord) (x y : ℕ) → Contains (values_in f.blocks) v → v.op.family ≡ op.Add → v.args ≡ x ∷ y ∷ [] → at v.id ≡ (at x + at y) % 2 ^ 64
+  pub made : (v : ValueRecord) (x m : ℕ) → Contains (values_in f.blocks) v → v.op.family ≡ op.MakeResult → v.args ≡ x ∷ m ∷ [] → n ≡ at x
 
-named : (before : List ValueRecord) (x : ℕ) → names_slot before x ≡ true → Named before x
-named before x h =
-    let r = passing (λ v. has_slot v.op.family && v.id == x) before h in
-    let b = both (has_slot r.0.op.family) (r.0.id == x) r.2 in
-    (r.0, r.1, b.0, same_test r.0.id x b.1)
+-- a value before has a slot and this number
+abbrev pub Named : List ValueRecord → ℕ → Type 0
+Named before x = (w : ValueRecord) × Contains before w × (has_slot w.op.family ≡ true) × (w.id ≡ x)
 
 named_later : (before : List ValueRecord) (v : ValueRecord) (x : ℕ) → Named before x → Named (before ++ v ∷ []) x
 named_later before v x (w, c, s, e) = (w, Contains-append_left before (v ∷ []) w c, s, e)
 
 -- what a value of a sum is
-data Shape (n : ℕ) (control : Option ℕ) (before : List ValueRecord) (v : ValueRecord) : Type 0 where
+pub data Shape (n : ℕ) (control : Option ℕ) (before : List ValueRecord) (v : ValueRecord) : Type 0 where
   a_memory : v.op.family ≡ op.InitMem → Shape n control before v
   an_argument : (place : ℕ) → v.op.family ≡ op.Arg → v.aux ≡ aux.Arg place → place < n → Shape n control before v
   a_sum : (x y : ℕ) → v.op.family ≡ op.Add → v.args ≡ x ∷ y ∷ [] → Named before x → Named before y → Shape n control before v
   a_result : (x m : ℕ) → v.op.family ≡ op.MakeResult → v.args ≡ x ∷ m ∷ [] → Named before x → control ≡ Some v.id → Shape n control before v
 
-argument_shape : (n : ℕ) (control : Option ℕ) (before : List ValueRecord) (v : ValueRecord) (a : Aux) → v.op.family ≡ op.Arg → v.aux ≡ a → is_argument n a ≡ true → Shape n control before v
-argument_shape n control before v (aux.Arg place) f e h = an_argument place f e (less_test place n h)
-argument_shape n control before v _ f e h = absurd (no h)
-
-sum_shape : (n : ℕ) (control : Option ℕ) (before : List ValueRecord) (v : ValueRecord) (args : List ℕ) → v.op.family ≡ op.Add → v.args ≡ args → adds_slots before args ≡ true → Shape n control before v
-sum_shape n control before v (x ∷ y ∷ []) f e h =
-    let b = both (names_slot before x) (names_slot before y) h in
-    a_sum x y f e (named before x b.0) (named before y b.1)
-sum_shape n control before v [] f e h = absurd (no h)
-sum_shape n control before v (x ∷ []) f e h = absurd (no h)
-sum_shape n control before v (x ∷ y ∷ z ∷ more) f e h = absurd (no h)
-
-control_is : (id : ℕ) (control : Option ℕ) → is_control id control ≡ true → control ≡ Some id
-control_is id (Some n) h = ap Some (sym (same_test id n h))
-control_is id None h = absurd (no h)
-
-result_shape : (n : ℕ) (control : Option ℕ) (before : List ValueRecord) (v : ValueRecord) (args : List ℕ) → v.op.family ≡ op.MakeResult → v.args ≡ args → makes_slot before args ≡ true → is_control v.id control ≡ true → Shape n control before v
-result_shape n control before v (x ∷ m ∷ []) f e h k =
-    let b = both (names_slot before x) (names_memory before m) h in
-    a_result x m f e (named before x b.0) (control_is v.id control k)
-result_shape n control before v [] f e h k = absurd (no h)
-result_shape n control before v (x ∷ []) f e h k = absurd (no h)
-result_shape n control before v (x ∷ y ∷ z ∷ more) f e h k = absurd (no h)
-
-shape_by : (n : ℕ) (control : Option ℕ) (before : List ValueRecord) (v : ValueRecord) (family : Family) → v.op.family ≡ family → adds n control before v family ≡ true → Shape n control before v
-unfolding adds
-shape_by n control before v op.InitMem f h = a_memory f
-shape_by n control before v op.Arg f h =
-    let b = both (is_int v.ty) (is_argument n v.aux) h in
-    argument_shape n control before v v.aux f refl b.1
-shape_by n control before v op.Add f h =
-    let b = both (is_int v.ty && v.op.a == 64) (adds_slots before v.args) h in
-    sum_shape n control before v v.args f refl b.1
-shape_by n control before v op.MakeResult f h =
-    let b = both (makes_slot before v.args) (is_control v.id control) h in
-    result_shape n control before v v.args f refl b.0 b.1
-shape_by n control before v _ f h = absurd (no h)
+-- each value has a shape after those before it, and a number of its own
+abbrev pub AllShaped : ℕ → Option ℕ → List ValueRecord → List ValueRecord → Type 0
+AllShaped n control before [] = Unit {0}
+AllShaped n control before (v ∷ vs) =
+    ((u : ValueRecord) → Contains before u → u.id ≢ v.id) × Shape n control before v × AllShaped n control (before ++ v ∷ []) vs
 
 -- the action at a value, by its shape
 slot_test : (v : ValueRecord) (family : Family) → has_slot family ≡ true → v.op.family ≡ family → has_slot v.op.family ≡ true
 slot_test v family h f = ap has_slot f ∙ h
 
-argument_slot : has_slot op.Arg ≡ true
+pub argument_slot : has_slot op.Arg ≡ true
 unfolding has_slot
 argument_slot = refl
 
-sum_slot : has_slot op.Add ≡ true
+pub sum_slot : has_slot op.Add ≡ true
 unfolding has_slot
 sum_slot = refl
 
@@ -278,24 +244,12 @@ module _ (all : List ValueRecord) where
   one_step n control before args ss r v vs w here fresh (a_result x m f a p k) =
       (ss, slice_index ss (slot_of all x), at_made before control args ss r v w here fresh x m f a p k, ap (all_result args ss r) (actions_are v vs (Some (Deliver (slot_of all x))) (at_result all v x m f a)))
 
-  -- what the test of all values tells of the next one
-  next_value : (n : ℕ) (control : Option ℕ) (before : List ValueRecord) (v : ValueRecord) (vs : List ValueRecord) → all_add n control before (v ∷ vs) ≡ true → ((u : ValueRecord) → Contains before u → u.id ≢ v.id) × Shape n control before v × (all_add n control (before ++ v ∷ []) vs ≡ true)
-  unfolding all_add
-  next_value n control before v vs h =
-      let known = list_any (λ w. w.id == v.id) before in
-      let here = adds n control before v v.op.family in
-      let more = all_add n control (before ++ v ∷ []) vs in
-      let b = both (not known && here) more h in
-      let c = both (not known) here b.0 in
-      (λ u d e. absurd (let f = failing (λ w. w.id == v.id) before (not_true known c.0) u d in no (sym f ∙ test_same u.id v.id e)), shape_by n control before v v.op.family refl c.1, b.1)
-
-  walk : (n : ℕ) (control : Option ℕ) (before vs : List ValueRecord) (args ss : List ℕ) (r : ℕ) → all_add n control before vs ≡ true → ((u : ValueRecord) → Contains vs u → Contains all u) → Walked before control args ss r
+  walk : (n : ℕ) (control : Option ℕ) (before vs : List ValueRecord) (args ss : List ℕ) (r : ℕ) → AllShaped n control before vs → ((u : ValueRecord) → Contains vs u → Contains all u) → Walked before control args ss r
       → (ss' : List ℕ) × Walked (before ++ vs) control args ss' (all_result args ss r (actions vs))
   walk n control before [] args ss r h in_all w = (ss, subst (λ l. Walked l control args ss r) (sym (append-nil before)) w)
   walk n control before (v ∷ vs) args ss r h in_all w =
-      let t = next_value n control before v vs h in
-      let s = one_step n control before args ss r v vs w (in_all v (first_of_all v vs)) t.0 t.1 in
-      let q = walk n control (before ++ v ∷ []) vs args s.0 s.1 t.2 (λ u c. in_all u (later v vs u c)) s.2 in
+      let s = one_step n control before args ss r v vs w (in_all v (first_of_all v vs)) h.0 h.1 in
+      let q = walk n control (before ++ v ∷ []) vs args s.0 s.1 h.2 (λ u c. in_all u (later v vs u c)) s.2 in
       (q.0, subst (λ l. Walked l control args q.0 (all_result args ss r (actions (v ∷ vs)))) (append_assoc before (v ∷ []) vs) (subst (Walked ((before ++ v ∷ []) ++ vs) control args q.0) (sym s.3) q.1))
 
   named_within : (before : List ValueRecord) (x : ℕ) → ((u : ValueRecord) → Contains before u → Contains all u) → Named before x → slot_of all x < slotted
@@ -313,13 +267,12 @@ module _ (all : List ValueRecord) where
       let act = Deliver (slot_of all x) in
       subst (All (IsWithin n slotted)) (sym (actions_are v vs (Some act) (at_result all v x m f a))) (All-cons (IsWithin n slotted) act (actions vs) (named_within before x inside p) more)
 
-  all_within : (n : ℕ) (control : Option ℕ) (before vs : List ValueRecord) → all_add n control before vs ≡ true → ((u : ValueRecord) → Contains before u → Contains all u) → ((u : ValueRecord) → Contains vs u → Contains all u) → All (IsWithin n slotted) (actions vs)
+  all_within : (n : ℕ) (control : Option ℕ) (before vs : List ValueRecord) → AllShaped n control before vs → ((u : ValueRecord) → Contains before u → Contains all u) → ((u : ValueRecord) → Contains vs u → Contains all u) → All (IsWithin n slotted) (actions vs)
   all_within n control before [] h inside in_all = All-nil (IsWithin n slotted)
   all_within n control before (v ∷ vs) h inside in_all =
-      let t = next_value n control before v vs h in
       let here = in_all v (first_of_all v vs) in
-      step_within n control before v vs inside here t.1
-      (all_within n control (before ++ v ∷ []) vs t.2 (λ u c. elim (Contains-push_cases before v u c) [ inl d ↦ inside u d | inr e ↦ subst (Contains all) e here ]) (λ u c. in_all u (later v vs u c)))
+      step_within n control before v vs inside here h.1
+      (all_within n control (before ++ v ∷ []) vs h.2 (λ u c. elim (Contains-push_cases before v u c) [ inl d ↦ inside u d | inr e ↦ subst (Contains all) e here ]) (λ u c. in_all u (later v vs u c)))
 
 nothing_before : {X : Type 0} (x : X) → Contains [] x → ⊥
 nothing_before x (k, l, e) = omega arith
@@ -337,7 +290,7 @@ start all control args = record {
 }
 
 -- a function whose blocks are this one
-block_meant : (f : FuncRecord) (b : BlockRecord) → f.blocks ≡ b ∷ [] → length f.sig.args ≤ 63 → length b.values ≤ 100 → all_add (length f.sig.args) b.control [] b.values ≡ true → IsMeant routine_of Returns f
+pub block_meant : (f : FuncRecord) (b : BlockRecord) → f.blocks ≡ b ∷ [] → length f.sig.args ≤ 63 → length b.values ≤ 100 → AllShaped (length f.sig.args) b.control [] b.values → IsMeant routine_of Adds f
 block_meant f b e few many h =
     let vs = b.values in
     let n = length f.sig.args in
@@ -353,7 +306,7 @@ block_meant f b e few many h =
           let q = walk vs n b.control [] vs args (zeros (count_by (λ v. has_slot v.op.family) vs)) 0 h (λ u c. c) (start vs b.control args) in
           let w = q.1 in
           let at : ℕ → ℕ = λ id. slice_index q.0 (slot_of vs id) in
-          let moved : (values : List ValueRecord) → values ≡ vs → Returns f args (all_result args (zeros (count_by (λ v. has_slot v.op.family) values)) 0 (actions values values)) = λ values is. subst (λ l. Returns f args (all_result args (zeros (count_by (λ v. has_slot v.op.family) l)) 0 (actions l l))) (sym is) (record {
+          let moved : (values : List ValueRecord) → values ≡ vs → Adds f args (all_result args (zeros (count_by (λ v. has_slot v.op.family) values)) 0 (actions values values)) = λ values is. subst (λ l. Adds f args (all_result args (zeros (count_by (λ v. has_slot v.op.family) l)) 0 (actions l l))) (sym is) (record {
             at = at;
             argument = λ v place c f' a. w.argument v place (subst (λ l. Contains l v) here c) f' a;
             sum = λ v x y c f' a. w.sum v x y (subst (λ l. Contains l v) here c) f' a;
@@ -361,59 +314,3 @@ block_meant f b e few many h =
           }) in
           moved (values_in f.blocks) here;
     }
-
-one_block : (f : FuncRecord) (bs : List BlockRecord) → f.blocks ≡ bs → length f.sig.args ≤ 63 → has_sum_block (length f.sig.args) bs ≡ true → IsMeant routine_of Returns f
-one_block f (b ∷ []) e few h =
-    let n = length f.sig.args in
-    let p = both (returns b.kind && nat_le (length b.values) 100 && count_by (λ v. is_result v.op.family) b.values == 1) (all_add n b.control [] b.values) h in
-    let q = both (returns b.kind && nat_le (length b.values) 100) (count_by (λ v. is_result v.op.family) b.values == 1) p.0 in
-    let r = both (returns b.kind) (nat_le (length b.values) 100) q.0 in
-    block_meant f b e few (at_most (length b.values) 100 r.1) p.1
-one_block f [] e few h = absurd (no h)
-one_block f (a ∷ b ∷ bs) e few h = absurd (no h)
-
-sum_meant : (f : FuncRecord) → is_sum f ≡ true → IsMeant routine_of Returns f
-sum_meant f h =
-    let n = length f.sig.args in
-    let p = both (nat_le n 63 && list_all is_int f.sig.args && is_one_int f.sig.results) (has_sum_block n f.blocks) h in
-    let q = both (nat_le n 63 && list_all is_int f.sig.args) (is_one_int f.sig.results) p.0 in
-    let r = both (nat_le n 63) (list_all is_int f.sig.args) q.0 in
-    one_block f f.blocks refl (at_most n 63 r.0) p.1
-
-pub sums_meant : (fs : List FuncRecord) → list_all is_sum fs ≡ true → All (IsMeant routine_of Returns) fs
-sums_meant [] h = All-nil (IsMeant routine_of Returns)
-sums_meant (f ∷ fs) h =
-    let b = both (is_sum f) (list_all is_sum fs) h in
-    All-cons (IsMeant routine_of Returns) f fs (sum_meant f b.0) (sums_meant fs b.1)
-
-pub sum_fits : (fs : List FuncRecord) (i : ℕ) (f : FuncRecord) → list_all is_sum fs ≡ true → i < length fs → f ≡ get_or fs i f → FitsFrame (routine_of f)
-sum_fits fs i f h lt is = subst (λ g. FitsFrame (routine_of g)) (sym is) (sums_meant fs h i f lt).fits
-
-pub all_sums : (p : PackageRecord) → is_sums p ≡ true → list_all is_sum p.funcs ≡ true
-all_sums p h = (both (length p.vars == 0) (list_all is_sum p.funcs) h).1
-
-kept_few : {Y : Type 0} (o : Option Y) (ys : List Y) (n : ℕ) → length ys ≤ n → length (cons_option o ys) ≤ suc n
-kept_few None ys n h = omega arith
-kept_few (Some y) ys n h = omega arith
-
-filtered_few : {X Y : Type 0} (h : X → Option Y) (xs : List X) → length (filter_map h xs) ≤ length xs
-filtered_few h [] = omega arith
-filtered_few h (x ∷ xs) = kept_few (h x) (filter_map h xs) (length xs) (filtered_few h xs)
-
-few_values : (n : ℕ) (bs : List BlockRecord) → has_sum_block n bs ≡ true → length (values_in bs) ≤ 100
-few_values n (b ∷ []) h =
-    let p = both (returns b.kind && nat_le (length b.values) 100 && count_by (λ v. is_result v.op.family) b.values == 1) (all_add n b.control [] b.values) h in
-    let q = both (returns b.kind && nat_le (length b.values) 100) (count_by (λ v. is_result v.op.family) b.values == 1) p.0 in
-    at_most (length b.values) 100 (both (returns b.kind) (nat_le (length b.values) 100) q.0).1
-few_values n [] h = absurd (no h)
-few_values n (a ∷ b ∷ bs) h = absurd (no h)
-
--- a function does at most 100 actions
-pub few_actions : (f : FuncRecord) → is_sum f ≡ true → length (routine_of f).actions ≤ 100
-few_actions f h =
-    let n = length f.sig.args in
-    let p = both (nat_le n 63 && list_all is_int f.sig.args && is_one_int f.sig.results) (has_sum_block n f.blocks) h in
-    omega (arith, filtered_few (λ v. action_at (values_in f.blocks) v v.op.family) (values_in f.blocks), few_values n f.blocks p.1)
-
-pub each_sum : (f : FuncRecord) (fs : List FuncRecord) → list_all is_sum (f ∷ fs) ≡ true → (is_sum f ≡ true) × (list_all is_sum fs ≡ true)
-each_sum f fs h = both (is_sum f) (list_all is_sum fs) h

@@ -1,20 +1,12 @@
 -- One more routine of an image, and one more instruction of a routine.
-use Rattle.std.proofs.Common.{◌≡◌, ℕ, suc, ◌+◌, ◌<◌, List, ◌∷◌, ◌++◌, length, map, drop, get_or, All, ap, ◌∙◌, sym, subst, append_assoc, add-one, drop-cons, true}
-use Rattle.std.proofs.lemmas.List.{get_or-map, length-map}
+use Rattle.std.proofs.Common.{◌≡◌, ℕ, suc, ◌+◌, ◌<◌, List, ◌∷◌, ◌++◌, length, drop, get_or, ap, ◌∙◌, sym, subst, append_assoc, add-one, drop-cons, true}
 use Rattle.bk_rv_isa.specs.declared.inst.Inst.{Inst}
 use Rattle.bk_rv_isa.specs.Encoding.{fits}
-use Rattle.bk_top.specs.declared.narrow.package.Function.{Function}
-use Rattle.bk_top.specs.Narrow.{view, IsWellFormed}
 use Rattle.bk_top.specs.Code.{FitAll}
 
 -- the element at the index is the first of the rest
 rest_is : {X : Type 0} (xs : List X) (i : ℕ) (x : X) → i < length xs → x ≡ get_or xs i x → drop i xs ≡ x ∷ drop (i + 1) xs
 rest_is xs i x lt is = drop-cons xs i x lt ∙ ap (λ y. y ∷ drop (suc i) xs) (sym is) ∙ ap (λ j. x ∷ drop j xs) (sym (add-one i))
-
-pub well_formed_at : (fs : List Function) (i : ℕ) (f : Function) → All IsWellFormed (map view fs) → i < length fs → f ≡ get_or fs i f → IsWellFormed (view f)
-well_formed_at fs i f h lt is =
-    let l : i < length (map view fs) = subst (λ n. i < n) (sym (length-map fs view)) lt in
-    subst IsWellFormed (get_or-map view fs i f (view f) lt ∙ ap view (sym is)) (h i (view f) l)
 
 -- one more of what each element gives
 pub more : {X Y : Type 0} (all : List X → List Y) (one : X → List Y) → ((x : X) (xs : List X) → all (x ∷ xs) ≡ one x ++ all xs) → (xs : List X) (i : ℕ) (x : X) (before after whole : List Y) → i < length xs → x ≡ get_or xs i x

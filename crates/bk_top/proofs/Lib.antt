@@ -1,15 +1,3 @@
-pub mod Digits
-pub mod Functions
-pub mod Headers
-pub mod Lines
-pub mod Names
-pub mod Places
-pub mod Plain
-pub mod Rules
-pub mod Runs
-pub mod Values
-pub mod Whole
-pub mod Words
 pub mod Machine
 pub mod Effects
 pub mod Slots
@@ -17,7 +5,6 @@ pub mod Start
 pub mod Units
 pub mod Execution
 pub mod Computes
-pub mod Narrows
 pub mod Objects
 pub mod Sizes
 pub mod Serving
@@ -31,5 +18,7 @@ pub mod Actions
 pub mod Counts
 pub mod Adding
 pub mod Packages
+pub mod Shapes
+pub mod Meant
 pub mod Emitted
 pub mod Refusing

@@ -1,8 +1,7 @@
 -- The object of functions is an object.
-use Rattle.std.proofs.Common.{◌≡◌, ◌≢◌, ℕ, zero, suc, ◌+◌, ◌*◌, ◌^◌, ◌<◌, ◌≤◌, List, [], ◌∷◌, length, map, ap, ◌∙◌, sym, subst, refl, arith, rules, Bool, true, false, IsTrue, length-append}
-use Rattle.std.specs.Prelude.{replicate, count_by, cond, slice_index_or, ◌==◌, ◌||◌, Contains}
-use Rattle.std.specs.List.{All, flat_map, list_any, IsDistinct}
-use Rattle.std.proofs.lemmas.Bool.{eq-eqb, ne_eqb}
+use Rattle.std.proofs.Common.{◌≡◌, ℕ, zero, suc, ◌+◌, ◌*◌, ◌^◌, ◌<◌, ◌≤◌, List, [], ◌∷◌, length, map, ap, ◌∙◌, sym, subst, refl, arith, rules, true, IsTrue, length-append}
+use Rattle.std.specs.Prelude.{replicate, count_by, cond, Contains}
+use Rattle.std.specs.List.{All, flat_map, IsDistinct}
 use Rattle.std.specs.Str.{IsUtf8, bytes_eq}
 use Rattle.std.proofs.lemmas.List.{length-map, length-replicate}
 use Rattle.std.proofs.lemmas.List.Concat.{flat_map-cons}
@@ -17,7 +16,8 @@ use Rattle.bk_elf.specs.Tables.{ended}
 use Rattle.bk_elf.specs.Layout.{aligned, e_shoff}
 use Rattle.bk_elf.specs.Object.{are_codes, IsObject, IsTyped, IsSig, IsCoded, IsCode, name_places}
 use Rattle.bk_elf.specs.Contents.{place_of_type, names_of, name_bytes, gosig_words, sig_words, sizes_of}
-use Rattle.bk_top.specs.Pieces.{PieceRecord, all_words, sig_of, codes_of, symbols_from, object_of, names_in, names_size, IsPiece, ArePieces}
+use Rattle.bk_dump_laws.specs.Naming.{names_size}
+use Rattle.bk_top.specs.Pieces.{PieceRecord, all_words, sig_of, codes_of, symbols_from, object_of, names_in, IsPiece, ArePieces}
 
 all_same : {X : Type 0} (P : X → Type 0) (n : ℕ) (x : X) → P x → All P (replicate n x)
 all_same P zero x p = All-nil P
@@ -92,28 +92,32 @@ all_named : (P : List ℕ → Type 0) (ps : List PieceRecord) → ((p : PieceRec
 all_named P [] f h = All-nil P
 all_named P (p ∷ ps) f h = All-cons P p.name (names_in ps) (f p (All-head IsPiece p ps h)) (all_named P ps f (All-tail IsPiece p ps h))
 
-places_small : (place : ℕ) (ps : List PieceRecord) → place + names_size ps < 2 ^ 32 → All (λ n. n < 2 ^ 32) (name_places place (names_in ps))
+-- the bytes of one more name
+size_more : (n : List ℕ) (ns : List (List ℕ)) → names_size (n ∷ ns) ≡ length n + 1 + names_size ns
+size_more n ns = sum_by-cons (λ (n : List ℕ). length n + 1) n ns
+
+places_small : (place : ℕ) (ps : List PieceRecord) → place + names_size (names_in ps) < 2 ^ 32 → All (λ n. n < 2 ^ 32) (name_places place (names_in ps))
 places_small place [] h = All-nil (λ n. n < 2 ^ 32)
 places_small place (p ∷ ps) h =
-    All-cons (λ n. n < 2 ^ 32) place (name_places (place + length p.name + 1) (names_in ps)) (omega arith) (places_small (place + length p.name + 1) ps (omega arith))
+    All-cons (λ n. n < 2 ^ 32) place (name_places (place + length p.name + 1) (names_in ps)) (omega arith) (places_small (place + length p.name + 1) ps (omega (arith, size_more p.name (names_in ps))))
 
 -- sizes
 
-few_pieces : (ps : List PieceRecord) → length ps ≤ names_size ps
+few_pieces : (ps : List PieceRecord) → length ps ≤ names_size (names_in ps)
 few_pieces [] = omega arith
-few_pieces (p ∷ ps) = omega (arith, few_pieces ps)
+few_pieces (p ∷ ps) = omega (arith, few_pieces ps, size_more p.name (names_in ps))
 
 symbol_count : (address : ℕ) (ps : List PieceRecord) → length (symbols_from address ps) ≡ length ps
 symbol_count address [] = refl
 symbol_count address (p ∷ ps) = ap suc (symbol_count (address + 4 * length p.words) ps)
 
-ended_size : (ps : List PieceRecord) → length (flat_map ended (names_in ps)) ≡ names_size ps
+ended_size : (ps : List PieceRecord) → length (flat_map ended (names_in ps)) ≡ names_size (names_in ps)
 ended_size [] = refl
 ended_size (p ∷ ps) =
     ap length (flat_map-cons ended p.name (names_in ps))
-    ∙ omega (arith, length-append (ended p.name) (flat_map ended (names_in ps)), length-append p.name (0 ∷ []), ended_size ps)
+    ∙ omega (arith, length-append (ended p.name) (flat_map ended (names_in ps)), length-append p.name (0 ∷ []), size_more p.name (names_in ps), ended_size ps)
 
-name_bytes_size : (ps : List PieceRecord) → length (name_bytes (names_in ps)) ≡ 1 + names_size ps
+name_bytes_size : (ps : List PieceRecord) → length (name_bytes (names_in ps)) ≡ 1 + names_size (names_in ps)
 unfolding name_bytes
 name_bytes_size ps = ap length (flat_map-cons ended [] (names_in ps)) ∙ omega (arith, ended_size ps, length-append (ended []) (flat_map ended (names_in ps)))
 
@@ -188,22 +192,3 @@ object_typed ps h = record {
   symbols = small 0 ps (omega (arith, h.few_words));
   names = subst (All IsUtf8) (sym (named 65536 ps)) (all_named IsUtf8 ps (λ p i. i.text) h.each);
 }
-
--- a name without a byte 0, as a test and as a fact
-pub no_zero_tested : (n : List ℕ) → (Contains n 0 → ⊥) → list_any (λ b. b == 0) n ≡ false
-no_zero_tested [] h = refl
-no_zero_tested (x ∷ xs) h =
-    let other : x ≢ 0 = λ e. h (0, omega arith, e) in
-    rw (ne_eqb x 0 other) (no_zero_tested xs (λ k. h (suc k.0, omega (arith, k.1), k.2)))
-
-either : (b c : Bool) → b || c ≡ false → (b ≡ false) × (c ≡ false)
-either true c h = absurd (cc)
-either false c h = (refl, h)
-
-zero_missed : (n : List ℕ) (k : ℕ) → k < length n → slice_index_or n k 0 ≡ 0 → list_any (λ b. b == 0) n ≡ false → ⊥
-zero_missed [] k lt is h = absurd (omega arith)
-zero_missed (x ∷ xs) zero lt is h = let k = (either (x == 0) (list_any (λ b. b == 0) xs) h).0 in let t = eq-eqb x 0 is in absurd (cc)
-zero_missed (x ∷ xs) (suc k) lt is h = zero_missed xs k (omega arith) is (either (x == 0) (list_any (λ b. b == 0) xs) h).1
-
-pub no_zero_meant : (n : List ℕ) → list_any (λ b. b == 0) n ≡ false → Contains n 0 → ⊥
-no_zero_meant n h k = zero_missed n k.0 k.1 k.2 h

@@ -6,8 +6,8 @@ use Rattle.std.specs.Str.{bytes_eq}
 use Rattle.std.proofs.lemmas.List.{length-map, get_or-map}
 use Rattle.std.proofs.lemmas.Slice.Eq.{bytes_eq-Decides}
 use Rattle.bk_rv_isa.specs.Encoding.{word}
+use Rattle.bk_dump_laws.specs.Naming.{Differ}
 use Rattle.bk_elf.specs.Functions.{function_in}
-use Rattle.bk_top.specs.Narrow.{Differ}
 use Rattle.bk_top.specs.Routine.{RoutineRecord}
 use Rattle.bk_top.specs.Code.{code}
 use Rattle.bk_top.specs.Runs.{Serves}

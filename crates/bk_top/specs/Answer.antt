@@ -1,5 +1,5 @@
 -- What the program answers to its words and its input.
-use Rattle.std.specs.Prelude.{◌≡◌, ℕ, ◌<◌, ◌≤◌, List, ◌++◌, length, take, map, sum_by, Option, IfSome, IsTrue, All, false, Ok, Err, codes, ◌⊎◌}
+use Rattle.std.specs.Prelude.{◌≡◌, ℕ, ◌<◌, ◌≤◌, List, ◌++◌, length, take, map, sum_by, Option, IfSome, IsTrue, All, false, Ok, Err, codes}
 use Rattle.bk_ops.specs.declared.types.Target.{Target}
 use Rattle.bk_ops.specs.declared.types.Target.TheVariants.{Riscv64}
 use Rattle.std.specs.Fmt.{decimal}
@@ -15,47 +15,36 @@ use Rattle.bk_dump.specs.Print.{text_of}
 use Rattle.bk_dump.specs.Generate.{generated}
 use Rattle.bk_top.specs.declared.refusal.Refusal.{Refusal}
 use Rattle.bk_top.specs.declared.refusal.Refusal.TheVariants.{Words, ReadFault, TooLong, Syntax, Limit, Duplicate, Undefined, FormFault, NotYet, Object, Function, Arguments, WriteFault, Memory}
-use Rattle.bk_top.specs.Narrow.{Narrow, IsNarrow}
 use Rattle.bk_top.specs.Commands.{CommandRecord, compile_row, check_row, generate_row, run_row, evaluate_row, rules_row, Asks}
 use Rattle.bk_top.specs.Refusals.{status, line}
 use Rattle.bk_top.specs.Sums.{is_sums}
-use Rattle.bk_top.specs.Routine.{routine_of_narrow, routine_of}
-use Rattle.bk_top.specs.Meaning.{meaning, Returns}
-use Rattle.bk_top.specs.Pieces.{narrow_piece, func_piece, name_in, object_of, AreNamed}
+use Rattle.bk_top.specs.Routine.{routine_of}
+use Rattle.bk_top.specs.Meaning.{Returns}
+use Rattle.bk_top.specs.Pieces.{func_piece, name_in, object_of}
 use Rattle.bk_top.specs.Runs.{Serves}
 use Rattle.bk_top.specs.Running.{Runs, LacksFunction, Misfits}
-use Rattle.bk_top.specs.Package.{ReadsAs}
+use Rattle.bk_top.specs.Package.{ReadsAs, text_limit}
 use Rattle.bk_top.specs.Evaluating.{Evaluates, LacksNamed, MisfitsNamed}
 use Rattle.bk_top.specs.Listing.{listing}
 
--- the text is within the limit of narrow texts and spells a list of narrow functions
-abbrev pub IsNarrowText : List ℕ → Type 0
-IsNarrowText text = (length text ≤ 65536) × ((functions : List Narrow) × IsNarrow text functions)
-
--- The bytes are the file of the object of the functions that the text spells, which is loaded as this object; there each
--- function does what it means.
-pub record Translates (text bytes : List ℕ) : Type 0 where
-  pub functions : List Narrow
-  pub within : length text ≤ 65536
-  pub spelled : IsNarrow text functions
-  pub file : bytes ≡ file_of (object_of (map narrow_piece functions))
-  pub loads : loaded bytes ≡ Ok (object_of (map narrow_piece functions))
-  pub serve : All (λ f. Serves (object_of (map narrow_piece functions)) f.name (routine_of_narrow f) (λ args n. n ≡ meaning f args)) functions
-
--- The bytes are the file of the object of a package of sums; there each function does what it returns.
-pub record TranslatesSums (pkg : PackageRecord) (bytes : List ℕ) : Type 0 where
+-- The bytes are the file of the object of a package of sums, which is loaded as this object; there each function gives what
+-- it returns.
+pub record Translates (pkg : PackageRecord) (bytes : List ℕ) : Type 0 where
   pub adds : IsTrue (is_sums pkg)
   pub file : bytes ≡ file_of (object_of (map (func_piece pkg.names) pkg.funcs))
   pub loads : loaded bytes ≡ Ok (object_of (map (func_piece pkg.names) pkg.funcs))
-  pub serve : All (λ f. Serves (object_of (map (func_piece pkg.names) pkg.funcs)) (name_in pkg.names f) (routine_of f) (Returns f)) pkg.funcs
+  pub serve : All (λ f. Serves (object_of (map (func_piece pkg.names) pkg.funcs)) (name_in pkg.names f) (routine_of f) (Returns pkg f)) pkg.funcs
 
--- the same of the package that the text reads as
-abbrev pub TranslatesPackage : List ℕ → List ℕ → Type 0
-TranslatesPackage text bytes = (p : PackageRecord) × ReadsAs text Riscv64 (Ok p) × TranslatesSums p bytes
-
--- what `compile` makes of a text: that of a narrow text by what it spells, that of another by the package that it reads as
+-- what `compile` makes: the file of the package that the text reads as
 abbrev pub Compiles : List ℕ → List ℕ → Type 0
-Compiles text bytes = Translates text bytes ⊎ ((IsNarrowText text → ⊥) × TranslatesPackage text bytes)
+Compiles text bytes = (p : PackageRecord) × ReadsAs text Riscv64 (Ok p) × Translates p bytes
+
+-- the text reads as a package of sums, or as a package that is none
+abbrev pub HasCode : List ℕ → Type 0
+HasCode text = (p : PackageRecord) × ReadsAs text Riscv64 (Ok p) × IsTrue (is_sums p)
+
+abbrev pub HasNoCode : List ℕ → Type 0
+HasNoCode text = (p : PackageRecord) × ReadsAs text Riscv64 (Ok p) × (is_sums p ≡ false)
 
 -- the line of a package's counts
 abbrev pub counts : PackageRecord → List ℕ
@@ -87,10 +76,7 @@ ReadsInput (run_row call) = Unit {0}
 ReadsInput (evaluate_row target call) = Unit {0}
 ReadsInput rules_row = ⊥
 
--- the most bytes of a package text and of an object
-abbrev pub text_limit : ℕ
-text_limit = 16777216
-
+-- the most bytes of an object
 abbrev pub object_limit : ℕ
 object_limit = 67108864
 
@@ -103,22 +89,18 @@ input_limit (run_row call) = object_limit
 input_limit (evaluate_row target call) = text_limit
 input_limit rules_row = text_limit
 
--- the reader of packages refuses the text of a command, which is no narrow text that is compiled
+-- the reader of packages refuses the text of a command
 abbrev pub IsUnread : CommandRecord → List ℕ → DumpError → Type 0
-IsUnread compile_row text e = (IsNarrowText text → ⊥) × ReadsAs text Riscv64 (Err e)
+IsUnread compile_row text e = ReadsAs text Riscv64 (Err e)
 IsUnread (check_row target) text e = ReadsAs text target (Err e)
 IsUnread (generate_row n) text e = ⊥
 IsUnread (run_row call) text e = ⊥
 IsUnread (evaluate_row target call) text e = ReadsAs text target (Err e)
 IsUnread rules_row text e = ⊥
 
--- the package is none of sums, or has names that no object holds
-abbrev pub HasNoCode : PackageRecord → Type 0
-HasNoCode p = (is_sums p ≡ false) ⊎ (AreNamed (map (func_piece p.names) p.funcs) → ⊥)
-
 -- the command makes code, and the package that the text reads as has none yet
 abbrev pub IsNotYet : CommandRecord → List ℕ → Type 0
-IsNotYet compile_row text = (IsNarrowText text → ⊥) × ((p : PackageRecord) × ReadsAs text Riscv64 (Ok p) × HasNoCode p)
+IsNotYet compile_row text = HasNoCode text
 IsNotYet (check_row target) text = ⊥
 IsNotYet (generate_row n) text = ⊥
 IsNotYet (run_row call) text = ⊥
@@ -207,10 +189,10 @@ pub record GainsFront (words : List (List ℕ)) (input before now : Option (List
   pub made : Makes command input bytes
   pub gained : AppendsFront before now bytes
 
--- the output gained the object of the functions that the text spells
+-- the output gained the object of the package that the text reads as
 pub record Compiled (text : List ℕ) (before now : Option (List ℕ)) : Type 0 where
   pub bytes : List ℕ
-  pub translates : Translates text bytes
+  pub compiles : Compiles text bytes
   pub gained : Appends before now bytes
 
 -- the error stream gained the line of a refusal, and the answer is its status

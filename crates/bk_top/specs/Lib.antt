@@ -1,8 +1,3 @@
-pub mod Lines
-pub mod Words
-pub mod Decimal
-pub mod Reading
-pub mod Narrow
 pub mod Commands
 pub mod Arguments
 pub mod Outcomes

@@ -7,9 +7,9 @@ use Rattle.bk_ops.specs.declared.types.Ty.TheVariants.{Int}
 use Rattle.bk_func.specs.Records.{SigRecord, FuncRecord}
 use Rattle.bk_rv_isa.specs.Encoding.{word}
 use Rattle.bk_rv_isa.specs.Machine.{text_base}
+use Rattle.bk_dump_laws.specs.Naming.{Differ, names_size}
 use Rattle.bk_elf.specs.Records.{SymbolRecord, ObjectRecord}
-use Rattle.bk_top.specs.Narrow.{Narrow, Differ}
-use Rattle.bk_top.specs.Routine.{RoutineRecord, routine_of_narrow, routine_of}
+use Rattle.bk_top.specs.Routine.{RoutineRecord, routine_of}
 use Rattle.bk_top.specs.Code.{code}
 
 -- a function of an object: its name, how many arguments it takes, and the words of its code
@@ -20,9 +20,6 @@ pub record PieceRecord : Type 0 where
 
 abbrev pub piece_of : List ℕ → RoutineRecord → PieceRecord
 piece_of name r = record { name = name; arguments = r.arguments; words = map word (code r) }
-
-abbrev pub narrow_piece : Narrow → PieceRecord
-narrow_piece f = piece_of f.name (routine_of_narrow f)
 
 -- the name of a function of a package
 abbrev pub name_in : List (List ℕ) → FuncRecord → List ℕ
@@ -65,11 +62,6 @@ object_of ps = record {
 abbrev pub names_in : List PieceRecord → List (List ℕ)
 names_in ps = map (λ p. p.name) ps
 
--- the bytes of the names, each with one behind it
-abbrev pub names_size : List PieceRecord → ℕ
-names_size [] = 0
-names_size (p ∷ ps) = length p.name + 1 + names_size ps
-
 -- a function that an object may hold
 pub record IsPiece (p : PieceRecord) : Type 0 where
   pub few_arguments : p.arguments ≤ 63
@@ -82,16 +74,5 @@ pub record IsPiece (p : PieceRecord) : Type 0 where
 pub record ArePieces (ps : List PieceRecord) : Type 0 where
   pub each : All IsPiece ps
   pub few_words : length (all_words ps) ≤ 4194304
-  pub short_names : names_size ps ≤ 16777216
+  pub short_names : names_size (names_in ps) ≤ 16777216
   pub names_differ : Differ (names_in ps)
-
--- a name that may stand in an object
-abbrev pub IsLabel : List ℕ → Type 0
-IsLabel name = (Contains name 0 → ⊥) × IsUtf8 name
-
--- at most 4,096 functions, whose names may stand in an object, differ, and have at most 16 MiB
-pub record AreNamed (ps : List PieceRecord) : Type 0 where
-  pub few : length ps ≤ 4096
-  pub short : names_size ps ≤ 16777216
-  pub labels : All IsLabel (names_in ps)
-  pub differ : Differ (names_in ps)

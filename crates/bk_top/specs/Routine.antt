@@ -1,17 +1,13 @@
 -- Routines: functions whose values stand in slots.
-use Rattle.std.specs.Prelude.{ℕ, ◌+◌, ◌<◌, ◌≤◌, nat_lt, ◌&&◌, List, [], ◌∷◌, ◌++◌, length, count_by, Option, Some, None, All}
+use Rattle.std.specs.Prelude.{ℕ, ◌<◌, ◌≤◌, nat_lt, ◌&&◌, Bool, true, false, List, [], ◌∷◌, length, count_by, Option, Some, None, All}
 use Rattle.std.specs.List.{filter_map}
 use Rattle.bk_ops.specs.declared.family.Family.{Family}
 use Rattle.bk_ops.specs.declared.family.Family.TheVariants as op
 use Rattle.bk_func.specs.declared.parts.Aux.{Aux}
 use Rattle.bk_func.specs.declared.parts.Aux.TheVariants as aux
 use Rattle.bk_func.specs.Records.{ValueRecord, BlockRecord, FuncRecord}
-use Rattle.bk_top.specs.declared.narrow.package.Value.{Value}
-use Rattle.bk_top.specs.declared.narrow.package.Value.TheVariants as narrow
 use Rattle.bk_top.specs.declared.routine.Action.{Action}
 use Rattle.bk_top.specs.declared.routine.Action.TheVariants.{Argument, Sum, Deliver}
-use Rattle.bk_top.specs.Narrow.{Narrow}
-use Rattle.bk_top.specs.Sums.{has_slot}
 
 -- how many arguments, how many slots, and what is done
 pub record RoutineRecord : Type 0 where
@@ -31,21 +27,11 @@ pub record FitsFrame (r : RoutineRecord) : Type 0 where
   pub few_slots : r.slots ≤ 100
   pub within : All (IsWithin r.arguments r.slots) r.actions
 
--- The actions of a narrow function's values, from a slot on: each value has the next slot.
-abbrev pub action_of_value : ℕ → Value → Action
-action_of_value slot (narrow.Argument place) = Argument place slot
-action_of_value slot (narrow.Sum i j) = Sum i j slot
-
-abbrev pub actions_of_values : ℕ → List Value → List Action
-actions_of_values slot [] = []
-actions_of_values slot (v ∷ vs) = action_of_value slot v ∷ actions_of_values (slot + 1) vs
-
-abbrev pub routine_of_narrow : Narrow → RoutineRecord
-routine_of_narrow f = record {
-  arguments = length f.parameters;
-  slots = length f.values;
-  actions = actions_of_values 0 f.values ++ Deliver f.result ∷ [];
-}
+-- the families of the values that have a slot
+unfoldable pub has_slot : Family → Bool
+has_slot op.Arg = true
+has_slot op.Add = true
+has_slot _ = false
 
 -- the slot of a value: how many values with slots have lower numbers
 abbrev pub slot_of : List ValueRecord → ℕ → ℕ

@@ -5,7 +5,6 @@ mod answer;
 mod command;
 mod emit;
 mod line;
-mod narrow;
 mod object;
 mod program;
 mod refusal;
@@ -13,6 +12,5 @@ mod routine;
 mod rows;
 mod sums;
 mod tell;
-mod text;
 
 pub use program::backend;

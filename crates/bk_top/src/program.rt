@@ -1,9 +1,10 @@
 //! The top call.
 
-ghost use Rattle.std.specs.Prelude.{◌≡◌, ◌≢◌, ◌≤◌, ◌⊎◌, ℕ, IfSome, map, string_bytes};
+ghost use Rattle.std.specs.Prelude.{◌≡◌, ◌≢◌, ◌≤◌, ◌⊎◌, ℕ, length, IfSome, map, string_bytes};
 ghost use Rattle.bk_io.specs.Faults.{Rose};
 ghost use Rattle.bk_top.specs.Commands.{CommandRecord, compile_row, words_of, Asks};
-ghost use Rattle.bk_top.specs.Answer.{IsNarrowText, NoFault, ReadsInput, Gains, GainsFront, Compiled, Refused};
+ghost use Rattle.bk_top.specs.Package.{text_limit};
+ghost use Rattle.bk_top.specs.Answer.{HasCode, HasNoCode, NoFault, ReadsInput, Gains, GainsFront, Compiled, Tells, Refused};
 
 use crate::answer::answer;
 use crate::command::command_of;
@@ -32,8 +33,9 @@ pub fn backend<S: Source, X: Source, K: Sink, E: Sink, G: Gate>(
 
     // What the program gives.
     ensures made { result ≡ 0 → Gains (map string_bytes words.now) (S.left input.old) (K.written out.old) (K.written out.new) }
-    ensures compiled { result ≡ 0 → map string_bytes words.now ≡ words_of compile_row → IfSome (S.left input.old) (λ text. IsNarrowText text → Compiled text (K.written out.old) (K.written out.new)) }
-    ensures complete { IfSome (S.left input.old) (λ text. map string_bytes words.now ≡ words_of compile_row → IsNarrowText text → NoFault (S.faults input.old) (S.faults input.new) → NoFault (K.faults out.old) (K.faults out.new) → NoFault (E.faults err.old) (E.faults err.new) → (result ≡ 0) ⊎ (result ≡ 6)) }
+    ensures compiled { result ≡ 0 → map string_bytes words.now ≡ words_of compile_row → IfSome (S.left input.old) (λ text. Compiled text (K.written out.old) (K.written out.new)) }
+    ensures complete { IfSome (S.left input.old) (λ text. map string_bytes words.now ≡ words_of compile_row → length text ≤ text_limit → HasCode text → NoFault (S.faults input.old) (S.faults input.new) → NoFault (K.faults out.old) (K.faults out.new) → NoFault (E.faults err.old) (E.faults err.new) → (result ≡ 0) ⊎ (result ≡ 6)) }
+    ensures not_yet { IfSome (S.left input.old) (λ text. map string_bytes words.now ≡ words_of compile_row → length text ≤ text_limit → HasNoCode text → NoFault (S.faults input.old) (S.faults input.new) → NoFault (E.faults err.old) (E.faults err.new) → Tells Refusal.NotYet result (E.written err.old) (E.written err.new) ⊎ (result ≡ 6)) }
 
     // When each status comes.
     ensures refused { result ≢ 0 → result ≢ 5 → Refused (map string_bytes words.now) (S.left input.old) (S.faults input.old) (S.faults input.new) result (E.written err.old) (E.written err.new) }

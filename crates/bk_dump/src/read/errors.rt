@@ -76,7 +76,7 @@ impl<T: Drop> From<AllocFailed<T>> for DumpError {
 
 /// Why a line is refused.
 #[derive(Clone, Copy, PartialEq, Eq, Debug)]
-pub(crate) enum Fault {
+pub enum Fault {
     Syntax,
     Limit(Which),
     Duplicate,

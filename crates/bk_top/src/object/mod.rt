@@ -1,7 +1,6 @@
 //! The object of functions whose code is made.
 
 pub mod file;
-pub mod names;
 pub mod piece;
 
 pub use file::file_of;

@@ -1,6 +1,6 @@
 //! The input: its bytes, and the package that they spell.
 
-ghost use Rattle.std.specs.Prelude.{◌≡◌, Ok, IfOk, IfErr, IfSome};
+ghost use Rattle.std.specs.Prelude.{◌≡◌, ◌≤◌, vec_len, Ok, IfOk, IfErr, IfSome};
 ghost use Rattle.bk_top.specs.Package.{ReadsAs};
 ghost use Rattle.bk_top.specs.Answer.{IsReading, IsReaders, StandsFor};
 
@@ -20,6 +20,7 @@ pub const OBJECT_LIMIT: usize = 67_108_864;
 /// All bytes of the input, at most so many.
 pub fn bytes_of<S: Source>(alloc: Global, input: &mut S, limit: usize) -> Result<Vec<u8>, Refusal>
     ensures bytes { IfOk result (λ bytes. IfSome (S.left input.old) (λ left. bytes.items ≡ left)) }
+    ensures within { IfOk result (λ bytes. vec_len bytes ≤ limit) }
     ensures cause { IfErr result (IsReading limit (S.left input.old) (S.faults input.old) (S.faults input.new)) }
 {
     match read_all(alloc, input, limit) {

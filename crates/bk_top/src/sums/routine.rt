@@ -2,14 +2,20 @@
 
 ghost use Rattle.std.specs.Prelude.{◌≡◌, IfOk, count_by};
 ghost use Rattle.std.specs.List.{filter_map};
-ghost use Rattle.bk_top.specs.Sums.{has_slot};
-ghost use Rattle.bk_top.specs.Routine.{slot_of, argument_action, sum_action, result_action, action_at, values_in, routine_of};
+ghost use Rattle.bk_top.specs.Routine.{has_slot, slot_of, argument_action, sum_action, result_action, action_at, values_in, routine_of};
 
 use crate::routine::{Action, Routine};
-use crate::sums::value::has_slot;
 use bk_func::{Aux, Block, Func, Value};
 use bk_ops::Family;
 use std::alloc::{AllocError, Global};
+
+/// Whether a value has a slot.
+#[tactic(auto, unfolding(crate::specs::Routine::has_slot))]
+fn has_slot(value: &Value) -> bool
+    ensures { result ≡ has_slot value.now.op.family }
+{
+    matches!(value.op.family, Family::Arg | Family::Add)
+}
 
 /// The slot of the value of this number: how many values with slots have lower numbers.
 fn slot_of(values: &[Value], id: u32) -> usize

@@ -1,8 +1,8 @@
 //! Whether a package is one of sums.
 
 ghost use Rattle.std.specs.Prelude.{◌≡◌, count_by, ◌==◌, []};
-ghost use Rattle.std.specs.List.{list_any, list_all};
-ghost use Rattle.bk_top.specs.Sums.{is_int, is_result, adds, all_add, is_sum_block, has_sum_block, is_one_int, is_sum, is_sums};
+ghost use Rattle.std.specs.List.{list_all};
+ghost use Rattle.bk_top.specs.Sums.{is_int, is_result, all_add, is_sum_block, has_sum_block, is_one_int, is_sum, is_sums};
 
 use crate::sums::value::{adds, is_int, is_result};
 use bk_func::{Block, Func, Kind, Package, Value};
@@ -11,23 +11,13 @@ use bk_ops::Ty;
 /// The most values of a function.
 const MOST_VALUES: usize = 100;
 
-/// The most arguments of a function.
-const MOST_ARGUMENTS: usize = 63;
-
-fn is_declared(values: &[Value], id: u32) -> bool
-    ensures { result ≡ list_any (λ w. w.id == id) values.now }
-{
-    values.iter().any(|value| value.id == id)
-}
-
-/// Whether each value adds, after those before it, and has a number of its own.
+/// Whether each value adds, after those before it.
 #[tactic(auto, unfolding(crate::specs::Sums::all_add))]
-fn all_add(arguments: usize, control: Option<u32>, values: &[Value]) -> bool
-    ensures { result ≡ all_add arguments control [] values.now }
+fn all_add(values: &[Value]) -> bool
+    ensures { result ≡ all_add [] values.now }
 {
     for (place, value) in values.iter().enumerate() {
-        let before = &values[..place];
-        if is_declared(before, value.id) || !adds(arguments, control, before, value) {
+        if !adds(&values[..place], value) {
             return false;
         }
     }
@@ -41,20 +31,20 @@ fn has_one_result(values: &[Value]) -> bool
 }
 
 /// Whether a block returns one result, of at most 100 values that add.
-fn is_sum_block(arguments: usize, block: &Block) -> bool
-    ensures { result ≡ is_sum_block arguments block.now }
+fn is_sum_block(block: &Block) -> bool
+    ensures { result ≡ is_sum_block block.now }
 {
     block.kind == Kind::Ret
         && block.values.len() <= MOST_VALUES
         && has_one_result(&block.values)
-        && all_add(arguments, block.control, &block.values)
+        && all_add(&block.values)
 }
 
-fn has_sum_block(arguments: usize, blocks: &[Block]) -> bool
-    ensures { result ≡ has_sum_block arguments blocks.now }
+fn has_sum_block(blocks: &[Block]) -> bool
+    ensures { result ≡ has_sum_block blocks.now }
 {
     match blocks {
-        [block] => is_sum_block(arguments, block),
+        [block] => is_sum_block(block),
         _ => false,
     }
 }
@@ -78,10 +68,7 @@ fn are_ints(types: &[Ty]) -> bool
 fn is_sum(func: &Func) -> bool
     ensures { result ≡ is_sum func.now }
 {
-    func.sig.args.len() <= MOST_ARGUMENTS
-        && are_ints(&func.sig.args)
-        && is_one_int(&func.sig.results)
-        && has_sum_block(func.sig.args.len(), &func.blocks)
+    are_ints(&func.sig.args) && is_one_int(&func.sig.results) && has_sum_block(&func.blocks)
 }
 
 fn are_sums(funcs: &[Func]) -> bool

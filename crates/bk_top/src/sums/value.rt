@@ -1,10 +1,11 @@
 //! The values of a sum.
 
 ghost use Rattle.std.specs.Prelude.{◌≡◌};
-ghost use Rattle.bk_top.specs.Sums.{is_int, has_slot, is_memory, is_result, names_slot, names_memory, is_argument, adds_slots, makes_slot, is_control, adds};
+ghost use Rattle.std.specs.List.{list_all};
+ghost use Rattle.bk_top.specs.Sums.{is_int, is_int_or_none, is_result, is_sum_op, has_number, adds};
 
-use bk_func::{Aux, Value};
-use bk_ops::{Family, Ty};
+use bk_func::Value;
+use bk_ops::{Family, Op, Ty};
 
 pub fn is_int(ty: Ty) -> bool
     ensures { result ≡ is_int ty }
@@ -12,19 +13,11 @@ pub fn is_int(ty: Ty) -> bool
     ty == Ty::Int
 }
 
-/// Whether a value has a slot.
-#[tactic(auto, unfolding(crate::specs::Sums::has_slot))]
-pub fn has_slot(value: &Value) -> bool
-    ensures { result ≡ has_slot value.now.op.family }
+/// Whether a type is `int` or that of no machine word.
+fn is_int_or_none(ty: Ty) -> bool
+    ensures { result ≡ is_int_or_none ty }
 {
-    matches!(value.op.family, Family::Arg | Family::Add)
-}
-
-#[tactic(auto, unfolding(crate::specs::Sums::is_memory))]
-fn is_memory(value: &Value) -> bool
-    ensures { result ≡ is_memory value.now.op.family }
-{
-    matches!(value.op.family, Family::InitMem)
+    matches!(ty, Ty::Int | Ty::Mem | Ty::Void | Ty::Tuple)
 }
 
 #[tactic(auto, unfolding(crate::specs::Sums::is_result))]
@@ -34,69 +27,34 @@ pub fn is_result(value: &Value) -> bool
     matches!(value.op.family, Family::MakeResult)
 }
 
-/// Whether one of the values has a slot and this number.
-fn names_slot(values: &[Value], id: u32) -> bool
-    ensures { result ≡ names_slot values.now id }
+/// Whether an op is `InitMem`, `Arg`, `Add64` or `MakeResult`.
+#[tactic(auto, unfolding(crate::specs::Sums::is_sum_op))]
+fn is_sum_op(op: Op) -> bool
+    ensures { result ≡ is_sum_op op op.family }
 {
-    values.iter().any(|value| has_slot(value) && value.id == id)
-}
-
-/// Whether one of the values is the initial memory and has this number.
-fn names_memory(values: &[Value], id: u32) -> bool
-    ensures { result ≡ names_memory values.now id }
-{
-    values
-        .iter()
-        .any(|value| is_memory(value) && value.id == id)
-}
-
-fn is_argument(arguments: usize, aux: Aux) -> bool
-    ensures { result ≡ is_argument arguments aux }
-{
-    match aux {
-        Aux::Arg(place) => (place as usize) < arguments,
-        Aux::Nothing | Aux::Sym(_) | Aux::Ty(_) => false,
-    }
-}
-
-fn adds_slots(before: &[Value], args: &[u32]) -> bool
-    ensures { result ≡ adds_slots before.now args.now }
-{
-    match args {
-        [left, right] => names_slot(before, *left) && names_slot(before, *right),
+    match op.family {
+        Family::InitMem | Family::Arg | Family::MakeResult => true,
+        Family::Add => op.a == 64,
         _ => false,
     }
 }
 
-fn makes_slot(before: &[Value], args: &[u32]) -> bool
-    ensures { result ≡ makes_slot before.now args.now }
+/// Whether one of the values has this number.
+fn has_number(values: &[Value], id: u32) -> bool
+    ensures { result ≡ has_number values.now id }
 {
-    match args {
-        [found, memory] => names_slot(before, *found) && names_memory(before, *memory),
-        _ => false,
-    }
+    values.iter().any(|value| value.id == id)
 }
 
-fn is_control(id: u32, control: Option<u32>) -> bool
-    ensures { result ≡ is_control id control }
+fn have_numbers(values: &[Value], ids: &[u32]) -> bool
+    ensures { result ≡ list_all (has_number values.now) ids.now }
 {
-    control == Some(id)
+    ids.iter().all(|id| has_number(values, *id))
 }
 
-/// Whether the value is the initial memory, an `int` argument, an `int` sum of values before it, or the result
-/// of one before it, which the control names.
-#[tactic(auto, unfolding(crate::specs::Sums::adds))]
-pub fn adds(arguments: usize, control: Option<u32>, before: &[Value], value: &Value) -> bool
-    ensures { result ≡ adds arguments control before.now value.now value.now.op.family }
+/// Whether a value has such an op and no type of a machine word but `int`, and its arguments are values before it.
+pub fn adds(before: &[Value], value: &Value) -> bool
+    ensures { result ≡ adds before.now value.now }
 {
-    match value.op.family {
-        Family::InitMem => true,
-        Family::Arg => is_int(value.ty) && is_argument(arguments, value.aux),
-        Family::Add => is_int(value.ty)
-            && value.op.a == 64
-            && adds_slots(before, value.args.as_slice()),
-        Family::MakeResult => makes_slot(before, value.args.as_slice())
-            && is_control(value.id, control),
-        _ => false,
-    }
+    is_sum_op(value.op) && is_int_or_none(value.ty) && have_numbers(before, value.args.as_slice())
 }

@@ -1,12 +1,13 @@
 use Rattle.std.proofs.Common.{◌≡◌, [], ◌∷◌, ◌++◌, ap, ◌∙◌, sym, subst, arith, map, refl, string_bytes}
-use Rattle.bk_top.specs.Routine.{FitsFrame}
+use Rattle.bk_top.specs.Routine.{FitsFrame, routine_of}
 use Rattle.bk_top.specs.Pieces.{piece_of, name_in, func_piece}
-use Rattle.bk_top.proofs.Adding.{sum_fits}
 use Rattle.bk_top.proofs.Emitted.{more}
 use Rattle.bk_top.proofs.rows.compile.func_pieces.Goals as goal
 
 pub piece_of-requires : goal.piece_of-requires
-piece_of-requires c = subst FitsFrame (sym c.in_ok-routine.ensures) (sum_fits c.args.funcs.now c.loop-func.func-index c.func-item.result c.requires (omega arith) c.func-item.is)
+piece_of-requires c =
+    let f = c.func-item.result in
+    subst FitsFrame (sym c.in_ok-routine.ensures) (subst (λ g. FitsFrame (routine_of g)) (sym c.func-item.is) (c.requires c.loop-func.func-index f (omega arith)))
 
 pub loop-func-preserved : goal.loop-func-preserved
 loop-func-preserved c =

@@ -1,5 +1,0 @@
-use Rattle.bk_dump.proofs.LaidEnds.{end_lays, end_reads}
-use Rattle.bk_dump.proofs.laws.ending_lines.Goals as goal
-
-pub returns : goal.returns
-returns c line e = (end_lays line e, end_reads line e)

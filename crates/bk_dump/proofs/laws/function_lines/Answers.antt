@@ -1,5 +1,0 @@
-use Rattle.bk_dump.proofs.LaidHeaders.{func_lays, func_reads}
-use Rattle.bk_dump.proofs.laws.function_lines.Goals as goal
-
-pub returns : goal.returns
-returns c line h = (func_lays line h, func_reads line h)

@@ -1,0 +1,5 @@
+pub mod Lines
+pub mod Declarations
+pub mod Printed
+pub mod Naming
+pub mod Limits
