@@ -9,8 +9,6 @@ mod func;
 mod parts;
 mod placed;
 mod signature;
-#[cfg(test)]
-mod tests;
 
 pub use bk_ops::Memory;
 pub use construct::first_construct;

@@ -9,8 +9,6 @@ mod order;
 mod places;
 mod rebuilt;
 mod settled;
-#[cfg(test)]
-mod tests;
 
 pub use bk_func::Memory;
 pub use cleaned::clean;

@@ -9,8 +9,6 @@ mod machine;
 mod names;
 mod refused;
 mod table;
-#[cfg(test)]
-mod tests;
 mod types;
 
 pub use eval::eval_op;

@@ -4,8 +4,6 @@
 mod copy;
 pub mod make;
 mod numbers;
-#[cfg(test)]
-mod tests;
 mod trees;
 mod values;
 

@@ -3,8 +3,6 @@
 
 mod left;
 mod moves;
-#[cfg(test)]
-mod tests;
 
 pub use bk_func::Memory;
 pub use moves::sequence;

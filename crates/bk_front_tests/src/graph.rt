@@ -1,4 +1,4 @@
-use super::*;
+use bk_graph::{clean, layout};
 use bk_func::{Aux, Block, Func, Kind, Likely, Sig, Value};
 use bk_ops::{Family, Op, Ty};
 use smallvec::SmallVec;

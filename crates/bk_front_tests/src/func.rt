@@ -1,4 +1,7 @@
-use super::*;
+use bk_func::{
+    Aux, Block, Func, Kind, Likely, Sig, Value, add_value, block_place, copy_func, first_construct, greatest_value, replace,
+    uses,
+};
 use bk_ops::{Family, Op, Target, Ty, op_of_name};
 use smallvec::SmallVec;
 use std::alloc::{AllocError, Global};

@@ -1,7 +1,9 @@
 mod tables;
 mod values;
 
-use super::*;
+use bk_ops::{
+    ArmOp, AuxKind, Class, Family, Op, OpInfo, RvOp, Target, Ty, code, op_info, op_name, op_of_name, size, width,
+};
 use std::test::Fail;
 
 // A name with the count of arguments, the result and the two flags that Go's tables give it.

@@ -1,5 +1,5 @@
 // Values of expressions as Go gives them, and copies.
-use crate::{Bound, Build, Expr, Fun, Pattern, aux_value, copy_rules, holds, make};
+use bk_rule::{Bound, Build, Expr, Fun, Pattern, aux_value, copy_rules, holds, make};
 use bk_func::{Block, Func, Kind, Likely, Sig};
 use bk_ops::{Family, Target, Ty};
 use std::alloc::Global;

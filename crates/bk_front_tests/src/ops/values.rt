@@ -1,5 +1,5 @@
 use super::tables::*;
-use crate::*;
+use bk_ops::{Family, Op, Target, eval_op, op_info, op_of_name};
 use std::process::Abort;
 
 fn op_called(rt: &impl Abort, name: &str) -> Op {
