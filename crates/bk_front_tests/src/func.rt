@@ -1,6 +1,6 @@
 use bk_func::{
-    Aux, Block, Func, Kind, Likely, Sig, Value, add_value, block_place, copy_func, first_construct, greatest_value, replace,
-    uses,
+    Aux, Block, Func, Kind, Likely, Sig, Value, add_value, block_place, copy_func, first_construct,
+    greatest_value, replace, uses,
 };
 use bk_ops::{Family, Op, Target, Ty, op_of_name};
 use smallvec::SmallVec;

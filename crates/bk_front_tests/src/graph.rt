@@ -1,5 +1,5 @@
-use bk_graph::{clean, layout};
 use bk_func::{Aux, Block, Func, Kind, Likely, Sig, Value};
+use bk_graph::{clean, layout};
 use bk_ops::{Family, Op, Ty};
 use smallvec::SmallVec;
 use std::alloc::{AllocError, Global};

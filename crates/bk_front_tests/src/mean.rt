@@ -272,64 +272,66 @@ fn quotients(rt: HostRuntime) -> Result<(), Fail> {
     Ok(())
 }
 
-// Zeros and moved bytes: all of them lie in the window, and what is read shares none with what is
-// written, or nothing is done.
+// Zeros and moved bytes: an op with its count, where it writes and reads, and how the run ends. All bytes lie in the
+// window, and what is read shares none with what is written, or nothing is done.
+const MOVED: [(&str, i64, u64, u64, &str); 10] = [
+    (
+        "Move",
+        4,
+        BASE,
+        BASE + 4,
+        "Returned([]) [5, 6, 7, 8, 5, 6, 7, 8]",
+    ),
+    (
+        "Move",
+        4,
+        BASE + 1,
+        BASE + 1,
+        "Returned([]) [1, 2, 3, 4, 5, 6, 7, 8]",
+    ),
+    (
+        "Move",
+        4,
+        BASE + 1,
+        BASE,
+        "Wild(67108865) [1, 2, 3, 4, 5, 6, 7, 8]",
+    ),
+    (
+        "Move",
+        4,
+        BASE + 6,
+        BASE + 5,
+        "Wild(67108869) [1, 2, 3, 4, 5, 6, 7, 8]",
+    ),
+    (
+        "Move",
+        4,
+        BASE + 6,
+        BASE,
+        "Wild(67108870) [1, 2, 3, 4, 5, 6, 7, 8]",
+    ),
+    ("Move", 0, 1, 2, "Returned([]) [1, 2, 3, 4, 5, 6, 7, 8]"),
+    ("Move", -1, 1, 2, "Returned([]) [1, 2, 3, 4, 5, 6, 7, 8]"),
+    (
+        "Zero",
+        3,
+        BASE + 5,
+        0,
+        "Returned([]) [1, 2, 3, 4, 5, 0, 0, 0]",
+    ),
+    (
+        "Zero",
+        3,
+        BASE + 6,
+        0,
+        "Wild(67108870) [1, 2, 3, 4, 5, 6, 7, 8]",
+    ),
+    ("Zero", 0, 1, 0, "Returned([]) [1, 2, 3, 4, 5, 6, 7, 8]"),
+];
+
 #[test]
 fn bytes_are_moved(rt: HostRuntime) -> Result<(), Fail> {
-    for (name, count, to, from, end) in [
-        (
-            "Move",
-            4,
-            BASE,
-            BASE + 4,
-            "Returned([]) [5, 6, 7, 8, 5, 6, 7, 8]",
-        ),
-        (
-            "Move",
-            4,
-            BASE + 1,
-            BASE + 1,
-            "Returned([]) [1, 2, 3, 4, 5, 6, 7, 8]",
-        ),
-        (
-            "Move",
-            4,
-            BASE + 1,
-            BASE,
-            "Wild(67108865) [1, 2, 3, 4, 5, 6, 7, 8]",
-        ),
-        (
-            "Move",
-            4,
-            BASE + 6,
-            BASE + 5,
-            "Wild(67108869) [1, 2, 3, 4, 5, 6, 7, 8]",
-        ),
-        (
-            "Move",
-            4,
-            BASE + 6,
-            BASE,
-            "Wild(67108870) [1, 2, 3, 4, 5, 6, 7, 8]",
-        ),
-        ("Move", 0, 1, 2, "Returned([]) [1, 2, 3, 4, 5, 6, 7, 8]"),
-        ("Move", -1, 1, 2, "Returned([]) [1, 2, 3, 4, 5, 6, 7, 8]"),
-        (
-            "Zero",
-            3,
-            BASE + 5,
-            0,
-            "Returned([]) [1, 2, 3, 4, 5, 0, 0, 0]",
-        ),
-        (
-            "Zero",
-            3,
-            BASE + 6,
-            0,
-            "Wild(67108870) [1, 2, 3, 4, 5, 6, 7, 8]",
-        ),
-        ("Zero", 0, 1, 0, "Returned([]) [1, 2, 3, 4, 5, 6, 7, 8]"),
-    ] {
+    for (name, count, to, from, end) in MOVED {
         let args: &[u32] = if name == "Move" { &[2, 3, 1] } else { &[2, 1] };
         let lines: [Line<'_>; 5] = [
             (1, "InitMem", Ty::Mem, &[], 0, NONE),

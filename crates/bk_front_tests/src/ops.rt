@@ -2,7 +2,8 @@ mod tables;
 mod values;
 
 use bk_ops::{
-    ArmOp, AuxKind, Class, Family, Op, OpInfo, RvOp, Target, Ty, code, op_info, op_name, op_of_name, size, width,
+    ArmOp, AuxKind, Class, Family, Op, OpInfo, RvOp, Target, Ty, code, op_info, op_name,
+    op_of_name, size, width,
 };
 use std::test::Fail;
 

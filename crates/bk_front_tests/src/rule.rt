@@ -1,7 +1,7 @@
 // Values of expressions as Go gives them, and copies.
-use bk_rule::{Bound, Build, Expr, Fun, Pattern, aux_value, copy_rules, holds, make};
 use bk_func::{Block, Func, Kind, Likely, Sig};
 use bk_ops::{Family, Target, Ty};
+use bk_rule::{Bound, Build, Expr, Fun, Pattern, aux_value, copy_rules, holds, make};
 use std::alloc::Global;
 use std::test::Fail;
 
