@@ -1,5 +1,5 @@
-//! Tests of what stands before the machine: ops, functions, texts, forms, meanings, rules, orders of blocks, moves and the
-//! shared table. Tables, worked rows and refusals, over the public calls.
+//! Tests of what stands before the machine: ops, functions, texts, forms, meanings, rules and orders of blocks. Tables, worked
+//! rows and refusals, over the public calls.
 //!
 //! Tests of the larger crates stand in crates of their own, so that no crate is proved a second time for its tests.
 #![tactic(auto)]
@@ -24,7 +24,3 @@ mod read;
 mod rule;
 #[cfg(test)]
 mod rule_text;
-#[cfg(test)]
-mod share;
-#[cfg(test)]
-mod shuffle;

@@ -9,6 +9,8 @@ mod laws;
 mod make;
 mod rules;
 mod shares;
+#[cfg(test)]
+mod tests;
 
 pub use laws::each_step_is_an_event;
 pub use shares::{Pass, Share};

@@ -3,6 +3,8 @@
 
 mod left;
 mod moves;
+#[cfg(test)]
+mod tests;
 
 pub use bk_func::Memory;
 pub use moves::sequence;

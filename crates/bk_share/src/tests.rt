@@ -3,8 +3,8 @@ ghost use Rattle.std.specs.List.{Contains};
 ghost use Rattle.bk_core.specs.Rule.{keys_of};
 ghost use Rattle.bk_share.specs.Passes.{IsPassOf, view, announced_in};
 
+use crate::{Pass, Share};
 use bk_fixup::Handle;
-use bk_share::{Pass, Share};
 use std::test::Fail;
 use std::thread;
 use std::thread::Threads;

@@ -1,5 +1,5 @@
+use super::*;
 use bk_func::Loc;
-use bk_shuffle::sequence;
 use std::test::Fail;
 
 #[test]
