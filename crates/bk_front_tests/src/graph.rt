@@ -1,4 +1,4 @@
-use bk_graph::{clean, layout};
+use bk_graph::clean;
 use bk_func::{Aux, Block, Func, Kind, Likely, Sig, Value};
 use bk_ops::{Family, Op, Ty};
 use smallvec::SmallVec;
@@ -155,31 +155,6 @@ fn constants_decide(rt: HostRuntime) -> Result<(), Fail> {
         assert_eq!(rt; clean(alloc, &mut it), Ok(()));
         let shape = shape(alloc, &it)?;
         assert_eq!(rt; shape.as_slice(), expected);
-    }
-    Ok(())
-}
-
-// b1 goes to b2 and b3, and b3 to b2 and to itself.
-#[test]
-fn blocks_are_laid_out(rt: HostRuntime) -> Result<(), Fail> {
-    let alloc = rt.alloc();
-    for (likely, expected) in [
-        (Likely::No, &[1, 2, 3][..]),
-        (Likely::Second, &[1, 3, 2][..]),
-    ] {
-        let mut it = func(
-            alloc,
-            &[
-                Rows(1, Kind::First, None, &[], &[2, 3], &[]),
-                Rows(3, Kind::First, None, &[1, 3], &[2, 3], &[]),
-                Rows(2, Kind::Ret, None, &[1, 3], &[], &[]),
-            ],
-        )?;
-        for block in it.blocks.iter_mut() {
-            block.likely = likely;
-        }
-        let order = layout(alloc, &it).map_err(|_| "memory")?;
-        assert_eq!(rt; order.as_slice(), expected);
     }
     Ok(())
 }
