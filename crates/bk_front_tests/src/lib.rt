@@ -28,3 +28,5 @@ mod rule_text;
 mod share;
 #[cfg(test)]
 mod shuffle;
+#[cfg(test)]
+mod texts;
