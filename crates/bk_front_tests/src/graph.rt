@@ -1,77 +1,53 @@
-use bk_func::{Aux, Block, Func, Kind, Likely, Sig, Value};
-use bk_graph::{clean, layout};
-use bk_ops::{Family, Op, Ty};
-use smallvec::SmallVec;
+ghost use Rattle.std.specs.Prelude.{OnTrue};
+ghost use Rattle.bk_graph.specs.Given.{IsGiven};
+
+use crate::texts::package;
+use bk_form::check_form;
+use bk_func::{Func, Package, copy_func, greatest_block, greatest_value};
+use bk_graph::{Memory, clean, layout, split_critical};
+use bk_ops::Target;
 use std::alloc::{AllocError, Global};
+use std::process::Abort;
 use std::test::Fail;
 
-/// A value without aux: its number, family, arguments and AuxInt.
-#[derive(Clone, Copy)]
-struct Row<'a>(u32, Family, &'a [u32], i64);
-
-/// A block: its number, kind, control, predecessors, successors and values.
-#[derive(Clone, Copy)]
-struct Rows<'a>(u32, Kind, Option<u32>, &'a [u32], &'a [u32], &'a [Row<'a>]);
-
-fn numbers(alloc: Global, numbers: &[u32]) -> Result<Vec<u32>, AllocError> {
-    let mut copy = Vec::new(alloc);
-    for number in numbers {
-        copy.push(*number)?;
+/// Whether a function of the package is in form and its numbers and its count of blocks are small.
+fn is_given(alloc: Global, package: &Package, func: &Func) -> bool
+    ensures { OnTrue result (IsGiven func.now) }
+{
+    if greatest_value(func) >= 4_000_000_000 || greatest_block(func) >= 4_000_000_000 {
+        return false;
     }
-    Ok(copy)
+    if func.blocks.len() >= 100_000_000 {
+        return false;
+    }
+    match check_form(alloc, package, func, Target::Riscv64) {
+        Ok(()) => true,
+        Err(_) => false,
+    }
 }
 
-fn value(alloc: Global, row: &Row) -> Result<Value, AllocError> {
-    let family = row.1;
-    let ty = match family {
-        Family::InitMem | Family::Store => Ty::Mem,
-        Family::MakeResult => Ty::Tuple,
-        _ => Ty::Int64,
-    };
-    Ok(Value {
-        id: row.0,
-        op: Op {
-            family,
-            a: 64,
-            b: 0,
-        },
-        ty,
-        args: SmallVec::from_slice(alloc, row.2)?,
-        int: row.3,
-        aux: Aux::Nothing,
-    })
+/// The layout of a function, none if it is not in form.
+fn order(alloc: Global, package: &Package, func: &Func) -> Result<Vec<u32>, Memory> {
+    if !is_given(alloc, package, func) {
+        return Ok(Vec::new(alloc));
+    }
+    Ok(layout(alloc, func)?)
 }
 
-fn block(alloc: Global, rows: &Rows) -> Result<Block, AllocError> {
-    let mut values = Vec::new(alloc);
-    for row in rows.5 {
-        values.push(value(alloc, row)?)?;
+/// The function with its critical edges split, as it is if it is not in form.
+fn without_critical(alloc: Global, package: &Package, func: &Func) -> Result<Func, Memory> {
+    let mut split = copy_func(alloc, func)?;
+    if is_given(alloc, package, &split) {
+        split_critical(alloc, &mut split)?;
     }
-    Ok(Block {
-        id: rows.0,
-        kind: rows.1,
-        control: rows.2,
-        preds: numbers(alloc, rows.3)?,
-        succs: numbers(alloc, rows.4)?,
-        likely: Likely::No,
-        values,
-    })
+    Ok(split)
 }
 
-fn func(alloc: Global, table: &[Rows]) -> Result<Func, AllocError> {
-    let mut blocks = Vec::new(alloc);
-    for rows in table {
-        blocks.push(block(alloc, rows)?)?;
-    }
-    Ok(Func {
-        name: 0,
-        sig: Sig {
-            args: Vec::new(alloc),
-            results: Vec::new(alloc),
-        },
-        blocks,
-        given: 0,
-    })
+/// The function cleaned.
+fn cleaned(alloc: Global, func: &Func) -> Result<Func, Memory> {
+    let mut cleaned = copy_func(alloc, func)?;
+    clean(alloc, &mut cleaned)?;
+    Ok(cleaned)
 }
 
 /// Of each block its number, the control or 0, predecessors, successors, and each value with its arguments; a 0 ends
@@ -99,87 +75,77 @@ fn push_all(shape: &mut Vec<u32>, numbers: &[u32]) -> Result<(), AllocError> {
     shape.push(0).map_err(|error| AllocError::from(error))
 }
 
-// b1 goes to b2 by a constant, b2 joins b1 and b3: the phi of b2 is left with the argument of b1.
+// b1 goes to b2 and b3, b3 to b2 and back to itself.
+const LOOP: &str =
+    "b1 If v2 -> b2 b3; v1 InitMem mem; v2 Arg bool {a0}; b3 If v2 <- b1 b3 -> b2 b3; b2 Ret v1 <- b1 b3";
+
+/// The entry, then marked and unplaced successors, then blocks in list order with a placed predecessor.
 #[test]
-fn constants_decide(rt: HostRuntime) -> Result<(), Fail> {
-    let alloc = rt.alloc();
-    for (int, expected) in [
+fn blocks_are_laid_out(rt: HostRuntime) -> Result<(), Fail> {
+    let cases = [
+        ("b1 Ret v1; v1 InitMem mem", &[1][..]),
+        (LOOP, &[1, 2, 3][..]),
         (
-            1,
-            &[1, 0, 0, 2, 0, 1, 0, 3, 0, 0, 2, 7, 1, 0, 0, 7, 3, 1, 0, 0][..],
+            "b1 If v2 -> b2 b3 unlikely; v1 InitMem mem; v2 Arg bool {a0}; b3 Plain <- b1 -> b2; b2 Ret v1 <- b1 b3",
+            &[1, 3, 2][..],
         ),
         (
-            0,
-            &[
-                1, 0, 0, 3, 0, 1, 0, 0, 3, 0, 1, 0, 2, 0, 5, 0, 0, 2, 7, 3, 0, 0, 7, 5, 1, 0, 0,
-            ][..],
+            "b1 If v2 -> b2 b3 likely; v1 InitMem mem; v2 Arg bool {a0}; b3 Ret v1 <- b1; b2 Plain <- b1 -> b4; b5 Ret v1; b4 Ret v1 <- b2",
+            &[1, 2, 4, 3][..],
         ),
-    ] {
-        let mut it = func(
-            alloc,
-            &[
-                Rows(
-                    1,
-                    Kind::If,
-                    Some(4),
-                    &[],
-                    &[2, 3],
-                    &[
-                        Row(1, Family::InitMem, &[], 0),
-                        Row(2, Family::ConstBool, &[], int),
-                        Row(3, Family::Const, &[], 5),
-                        Row(4, Family::Copy, &[2], 0),
-                    ],
-                ),
-                Rows(
-                    3,
-                    Kind::Plain,
-                    None,
-                    &[1],
-                    &[2],
-                    &[Row(5, Family::Const, &[], 7)],
-                ),
-                Rows(
-                    2,
-                    Kind::Ret,
-                    Some(7),
-                    &[1, 3],
-                    &[],
-                    &[
-                        Row(6, Family::Phi, &[3, 5], 0),
-                        Row(7, Family::MakeResult, &[6, 1], 0),
-                    ],
-                ),
-            ],
-        )?;
-        assert_eq!(rt; clean(alloc, &mut it), Ok(()));
-        let shape = shape(alloc, &it)?;
-        assert_eq!(rt; shape.as_slice(), expected);
+    ];
+    for (text, expected) in cases {
+        let package = package(rt.alloc(), &rt, "", text)?;
+        let func = package.funcs.first().expect(&rt, "a function");
+        let order = order(rt.alloc(), &package, func)?;
+        assert_eq!(rt; order.as_slice(), expected, "{text}");
     }
     Ok(())
 }
 
-// b1 goes to b2 and b3, and b3 to b2 and to itself.
+/// The edges from b1 to b2 and b3, and those from b3 to b2 and to itself, are critical.
 #[test]
-fn blocks_are_laid_out(rt: HostRuntime) -> Result<(), Fail> {
-    let alloc = rt.alloc();
-    for (likely, expected) in [
-        (Likely::No, &[1, 2, 3][..]),
-        (Likely::Second, &[1, 3, 2][..]),
-    ] {
-        let mut it = func(
-            alloc,
+fn critical_edges_are_split(rt: HostRuntime) -> Result<(), Fail> {
+    let package = package(rt.alloc(), &rt, "", LOOP)?;
+    let func = package.funcs.first().expect(&rt, "a function");
+    let split = without_critical(rt.alloc(), &package, func)?;
+    let shape = shape(rt.alloc(), &split)?;
+    let expected = [
+        1, 2, 0, 4, 5, 0, 1, 0, 2, 0, 0, // b1
+        3, 2, 5, 7, 0, 6, 7, 0, 0, // b3
+        2, 1, 4, 6, 0, 0, 0, // b2
+        4, 0, 1, 0, 2, 0, 0, // from b1 to b2
+        5, 0, 1, 0, 3, 0, 0, // from b1 to b3
+        6, 0, 3, 0, 2, 0, 0, // from b3 to b2
+        7, 0, 3, 0, 3, 0, 0, // from b3 to b3
+    ];
+    assert_eq!(rt; shape.as_slice(), &expected[..]);
+    let order = order(rt.alloc(), &package, &split)?;
+    assert_eq!(rt; order.as_slice(), &[1, 4, 2, 5, 3, 6, 7][..]);
+    Ok(())
+}
+
+/// b1 goes to b2 by a constant, b2 joins b1 and b3: the phi of b2 is left with the argument of b1.
+#[test]
+fn constants_decide(rt: HostRuntime) -> Result<(), Fail> {
+    let cases = [
+        (
+            "b1 If v4 -> b2 b3; v1 InitMem mem; v2 ConstBool bool [1]; v3 Const64 int [5]; v4 Copy bool v2; b3 Plain <- b1 -> b2; v5 Const64 int [7]; b2 Ret v7 <- b1 b3; v6 Phi int v3 v5; v7 MakeResult list v6 v1",
+            &[1, 0, 0, 2, 0, 1, 0, 3, 0, 0, 2, 7, 1, 0, 0, 7, 3, 1, 0, 0][..],
+        ),
+        (
+            "b1 If v4 -> b2 b3; v1 InitMem mem; v2 ConstBool bool [0]; v3 Const64 int [5]; v4 Copy bool v2; b3 Plain <- b1 -> b2; v5 Const64 int [7]; b2 Ret v7 <- b1 b3; v6 Phi int v3 v5; v7 MakeResult list v6 v1",
             &[
-                Rows(1, Kind::First, None, &[], &[2, 3], &[]),
-                Rows(3, Kind::First, None, &[1, 3], &[2, 3], &[]),
-                Rows(2, Kind::Ret, None, &[1, 3], &[], &[]),
-            ],
-        )?;
-        for block in it.blocks.iter_mut() {
-            block.likely = likely;
-        }
-        let order = layout(alloc, &it).map_err(|_| "memory")?;
-        assert_eq!(rt; order.as_slice(), expected);
+                1, 0, 0, 3, 0, 1, 0, 0, 3, 0, 1, 0, 2, 0, 5, 0, 0, 2, 7, 3, 0, 0, 7, 5, 1, 0, 0,
+            ][..],
+        ),
+    ];
+    for (text, expected) in cases {
+        let package = package(rt.alloc(), &rt, "int", text)?;
+        let func = package.funcs.first().expect(&rt, "a function");
+        let cleaned = cleaned(rt.alloc(), func)?;
+        let shape = shape(rt.alloc(), &cleaned)?;
+        assert_eq!(rt; shape.as_slice(), expected, "{text}");
     }
     Ok(())
 }

@@ -24,3 +24,5 @@ mod read;
 mod rule;
 #[cfg(test)]
 mod rule_text;
+#[cfg(test)]
+mod texts;

@@ -12,7 +12,7 @@ use Rattle.bk_graph.specs.Named.{AreFirsts, block_ids}
 use Rattle.bk_graph.proofs.Listed.{position_more, find_position, position-map}
 
 -- a look-up by numbers finds the same number
-is_at_number : (x n : ℕ) → is_at (nat_cmp x) n ≡ (x == n)
+pub is_at_number : (x n : ℕ) → is_at (nat_cmp x) n ≡ (x == n)
 is_at_number x n = grind (arith, nat_tests)
 
 or_here : (o : Option ℕ) (i : ℕ) → Some (unwrap_or o i) ≡ option_or o (Some i)

@@ -3,3 +3,4 @@ pub mod Critical
 pub mod Given
 pub mod Layout
 pub mod Named
+pub mod Placing
