@@ -1,5 +1,5 @@
-//! Tests of what stands before the machine: ops, functions, texts, forms, meanings, rules and orders of blocks. Tables, worked
-//! rows and refusals, over the public calls.
+//! Tests of what stands before the machine: ops, functions, texts, forms, meanings and rules. Tables, worked rows and
+//! refusals, over the public calls.
 //!
 //! Tests of the larger crates stand in crates of their own, so that no crate is proved a second time for its tests.
 #![tactic(auto)]
@@ -12,8 +12,6 @@ mod form;
 mod func;
 #[cfg(test)]
 mod generic;
-#[cfg(test)]
-mod graph;
 #[cfg(test)]
 mod mean;
 #[cfg(test)]

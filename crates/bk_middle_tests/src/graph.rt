@@ -1,14 +1,22 @@
 ghost use Rattle.std.specs.Prelude.{OnTrue};
 ghost use Rattle.bk_graph.specs.Given.{IsGiven};
 
-use crate::texts::package;
+use bk_dump::read_package;
 use bk_form::check_form;
 use bk_func::{Func, Package, copy_func, greatest_block, greatest_value};
 use bk_graph::{Memory, clean, layout, split_critical};
 use bk_ops::Target;
 use std::alloc::{AllocError, Global};
-use std::process::Abort;
 use std::test::Fail;
+
+/// The package that a text reads as.
+fn package(alloc: Global, text: &[u8]) -> Result<Package, Fail> {
+    Ok(
+        read_package(alloc, text, Target::Riscv64)
+            .ok()
+            .ok_or("no package")?,
+    )
+}
 
 /// Whether a function of the package is in form and its numbers and its count of blocks are small.
 fn is_given(alloc: Global, package: &Package, func: &Func) -> bool
@@ -76,29 +84,32 @@ fn push_all(shape: &mut Vec<u32>, numbers: &[u32]) -> Result<(), AllocError> {
 }
 
 // b1 goes to b2 and b3, b3 to b2 and back to itself.
-const LOOP: &str =
-    "b1 If v2 -> b2 b3; v1 InitMem mem; v2 Arg bool {a0}; b3 If v2 <- b1 b3 -> b2 b3; b2 Ret v1 <- b1 b3";
+const LOOP: &[u8] =
+    b"f func(c bool)\nb1:\nv1 = InitMem <mem>\nv2 = Arg <bool> {c}\nIf v2 -> b2 b3\nb3: <- b1 b3\nIf v2 -> b2 b3\nb2: <- b1 b3\nRet v1\n";
+
+const UNLIKELY: &[u8] =
+    b"f func(c bool)\nb1:\nv1 = InitMem <mem>\nv2 = Arg <bool> {c}\nIf v2 -> b2 b3 (unlikely)\nb3: <- b1\nPlain -> b2\nb2: <- b1 b3\nRet v1\n";
+
+const LIKELY: &[u8] =
+    b"f func(c bool)\nb1:\nv1 = InitMem <mem>\nv2 = Arg <bool> {c}\nIf v2 -> b2 b3 (likely)\nb3: <- b1\nRet v1\nb2: <- b1\nPlain -> b4\nb5:\nPlain -> b5\nb4: <- b2\nRet v1\n";
 
 /// The entry, then marked and unplaced successors, then blocks in list order with a placed predecessor.
 #[test]
 fn blocks_are_laid_out(rt: HostRuntime) -> Result<(), Fail> {
     let cases = [
-        ("b1 Ret v1; v1 InitMem mem", &[1][..]),
+        (
+            &b"f func()\nb1:\nv1 = InitMem <mem>\nRet v1\n"[..],
+            &[1][..],
+        ),
         (LOOP, &[1, 2, 3][..]),
-        (
-            "b1 If v2 -> b2 b3 unlikely; v1 InitMem mem; v2 Arg bool {a0}; b3 Plain <- b1 -> b2; b2 Ret v1 <- b1 b3",
-            &[1, 3, 2][..],
-        ),
-        (
-            "b1 If v2 -> b2 b3 likely; v1 InitMem mem; v2 Arg bool {a0}; b3 Ret v1 <- b1; b2 Plain <- b1 -> b4; b5 Ret v1; b4 Ret v1 <- b2",
-            &[1, 2, 4, 3][..],
-        ),
+        (UNLIKELY, &[1, 3, 2][..]),
+        (LIKELY, &[1, 2, 4, 3][..]),
     ];
     for (text, expected) in cases {
-        let package = package(rt.alloc(), &rt, "", text)?;
-        let func = package.funcs.first().expect(&rt, "a function");
+        let package = package(rt.alloc(), text)?;
+        let func = package.funcs.first().ok_or("no function")?;
         let order = order(rt.alloc(), &package, func)?;
-        assert_eq!(rt; order.as_slice(), expected, "{text}");
+        assert_eq!(rt; order.as_slice(), expected, "{text:?}");
     }
     Ok(())
 }
@@ -106,8 +117,8 @@ fn blocks_are_laid_out(rt: HostRuntime) -> Result<(), Fail> {
 /// The edges from b1 to b2 and b3, and those from b3 to b2 and to itself, are critical.
 #[test]
 fn critical_edges_are_split(rt: HostRuntime) -> Result<(), Fail> {
-    let package = package(rt.alloc(), &rt, "", LOOP)?;
-    let func = package.funcs.first().expect(&rt, "a function");
+    let package = package(rt.alloc(), LOOP)?;
+    let func = package.funcs.first().ok_or("no function")?;
     let split = without_critical(rt.alloc(), &package, func)?;
     let shape = shape(rt.alloc(), &split)?;
     let expected = [
@@ -125,27 +136,34 @@ fn critical_edges_are_split(rt: HostRuntime) -> Result<(), Fail> {
     Ok(())
 }
 
-/// b1 goes to b2 by a constant, b2 joins b1 and b3: the phi of b2 is left with the argument of b1.
+// b1 goes to b2 or b3 by a constant, b2 joins b1 and b3.
+const TAKEN: &[u8] =
+    b"f func() int\nb1:\nv1 = InitMem <mem>\nv2 = ConstBool <bool> [1]\nv3 = Const64 <int> [5]\nv4 = Copy <bool> v2\nIf v4 -> b2 b3\nb3: <- b1\nv5 = Const64 <int> [7]\nPlain -> b2\nb2: <- b1 b3\nv6 = Phi <int> v3 v5\nv7 = MakeResult <int,mem> v6 v1\nRet v7\n";
+
+const LEFT: &[u8] =
+    b"f func() int\nb1:\nv1 = InitMem <mem>\nv2 = ConstBool <bool> [0]\nv3 = Const64 <int> [5]\nv4 = Copy <bool> v2\nIf v4 -> b2 b3\nb3: <- b1\nv5 = Const64 <int> [7]\nPlain -> b2\nb2: <- b1 b3\nv6 = Phi <int> v3 v5\nv7 = MakeResult <int,mem> v6 v1\nRet v7\n";
+
+/// The phi of b2 is left with the argument of the one block that still leads there.
 #[test]
 fn constants_decide(rt: HostRuntime) -> Result<(), Fail> {
     let cases = [
         (
-            "b1 If v4 -> b2 b3; v1 InitMem mem; v2 ConstBool bool [1]; v3 Const64 int [5]; v4 Copy bool v2; b3 Plain <- b1 -> b2; v5 Const64 int [7]; b2 Ret v7 <- b1 b3; v6 Phi int v3 v5; v7 MakeResult list v6 v1",
+            TAKEN,
             &[1, 0, 0, 2, 0, 1, 0, 3, 0, 0, 2, 7, 1, 0, 0, 7, 3, 1, 0, 0][..],
         ),
         (
-            "b1 If v4 -> b2 b3; v1 InitMem mem; v2 ConstBool bool [0]; v3 Const64 int [5]; v4 Copy bool v2; b3 Plain <- b1 -> b2; v5 Const64 int [7]; b2 Ret v7 <- b1 b3; v6 Phi int v3 v5; v7 MakeResult list v6 v1",
+            LEFT,
             &[
                 1, 0, 0, 3, 0, 1, 0, 0, 3, 0, 1, 0, 2, 0, 5, 0, 0, 2, 7, 3, 0, 0, 7, 5, 1, 0, 0,
             ][..],
         ),
     ];
     for (text, expected) in cases {
-        let package = package(rt.alloc(), &rt, "int", text)?;
-        let func = package.funcs.first().expect(&rt, "a function");
+        let package = package(rt.alloc(), text)?;
+        let func = package.funcs.first().ok_or("no function")?;
         let cleaned = cleaned(rt.alloc(), func)?;
         let shape = shape(rt.alloc(), &cleaned)?;
-        assert_eq!(rt; shape.as_slice(), expected, "{text}");
+        assert_eq!(rt; shape.as_slice(), expected, "{text:?}");
     }
     Ok(())
 }

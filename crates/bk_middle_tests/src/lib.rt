@@ -1,0 +1,8 @@
+//! Tests of the work on one function, between its text and its code: orders of blocks. Worked rows and small functions, over
+//! the public calls.
+//!
+//! Tests of the larger crates stand in crates of their own, so that no crate is proved a second time for its tests.
+#![tactic(auto)]
+
+#[cfg(test)]
+mod graph;
