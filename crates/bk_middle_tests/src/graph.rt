@@ -1,4 +1,4 @@
-ghost use Rattle.std.specs.Prelude.{OnTrue};
+ghost use Rattle.std.specs.Bool.{OnTrue};
 ghost use Rattle.bk_graph.specs.Given.{IsGiven};
 
 use bk_dump::read_package;
