@@ -91,7 +91,7 @@ const UNLIKELY: &[u8] =
     b"f func(c bool)\nb1:\nv1 = InitMem <mem>\nv2 = Arg <bool> {c}\nIf v2 -> b2 b3 (unlikely)\nb3: <- b1\nPlain -> b2\nb2: <- b1 b3\nRet v1\n";
 
 const LIKELY: &[u8] =
-    b"f func(c bool)\nb1:\nv1 = InitMem <mem>\nv2 = Arg <bool> {c}\nIf v2 -> b2 b3 (likely)\nb3: <- b1\nRet v1\nb2: <- b1\nPlain -> b4\nb5:\nPlain -> b5\nb4: <- b2\nRet v1\n";
+    b"f func(c bool)\nb1:\nv1 = InitMem <mem>\nv2 = Arg <bool> {c}\nIf v2 -> b2 b3 (likely)\nb3: <- b1\nRet v1\nb2: <- b1\nPlain -> b4\nb5:\nRet v1\nb4: <- b2\nRet v1\n";
 
 /// The entry, then marked and unplaced successors, then blocks in list order with a placed predecessor.
 #[test]
