@@ -6,3 +6,4 @@ pub mod Listed
 pub mod Putting
 pub mod Readying
 pub mod Splitting
+pub mod Standing

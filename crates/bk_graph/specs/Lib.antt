@@ -1,6 +1,9 @@
 pub mod Clean
 pub mod Critical
 pub mod Given
+pub mod Kinds
 pub mod Layout
 pub mod Named
 pub mod Placing
+pub mod Nodes
+pub mod Rebuilt

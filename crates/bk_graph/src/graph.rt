@@ -1,13 +1,26 @@
 // A function's blocks and values by place, with the edges and arguments between them.
+ghost use Rattle.std.specs.Prelude.{◌≡◌, ◌++◌, [], map, length, slice_index_or, None, IfOk, OnOk};
+ghost use Rattle.bk_graph.specs.Nodes.{node_at, nodes_from, offsets_from, value_ids, place_by, control_by, or_past, succ_places, arg_places, control_places};
+
+use crate::lists::{EdgeLists, Lists};
 use crate::places::Places;
 use bk_func::{Block, Func, Value};
 use std::alloc::{AllocError, Global};
+use std::marker::Model;
 
 /// A value and the place of its block.
-#[derive(Clone, Copy)]
+#[derive(Drop)]
 pub(crate) struct Node<'a> {
     pub(crate) block: usize,
     pub(crate) value: &'a Value,
+}
+
+impl<'a> Model for Node<'a> {
+    ghost use Rattle.bk_graph.specs.Nodes.{NodeRecord};
+
+    ghost Value = { NodeRecord };
+
+    ghost view = { λ n. record { block = n.block; value = n.value.now } };
 }
 
 /// An edge: the place of the block that it leaves, and its place among that block's successors.
@@ -23,12 +36,14 @@ pub(crate) struct Graph<'a> {
     pub(crate) blocks: &'a [Block],
     /// The values in list order.
     pub(crate) nodes: Vec<Node<'a>>,
+    /// For each block the place of its first value, and last the count of values.
+    pub(crate) offsets: Vec<usize>,
     /// For each block the places of its successors.
-    pub(crate) succs: Vec<Vec<usize>>,
+    pub(crate) succs: Lists,
     /// For each block the edges to it, in the order of its predecessors.
-    pub(crate) edges: Vec<Vec<Edge>>,
+    pub(crate) edges: EdgeLists,
     /// For each value the places of its arguments.
-    pub(crate) args: Vec<Vec<usize>>,
+    pub(crate) args: Lists,
     /// For each block the place of its control.
     pub(crate) controls: Vec<Option<usize>>,
 }
@@ -36,7 +51,8 @@ pub(crate) struct Graph<'a> {
 impl<'a> Graph<'a> {
     pub(crate) fn new(alloc: Global, func: &'a Func) -> Result<Graph<'a>, AllocError> {
         let blocks: &'a [Block] = &func.blocks;
-        let nodes = nodes(alloc, blocks)?;
+        let mut nodes = Vec::new(alloc);
+        let offsets = list_nodes(alloc, &mut nodes, blocks)?;
         let block_places = Places::of_blocks(alloc, blocks)?;
         let value_places = Places::new(alloc, &value_ids(alloc, &nodes)?)?;
         let succs = all_succs(alloc, blocks, &block_places)?;
@@ -46,6 +62,7 @@ impl<'a> Graph<'a> {
         Ok(Graph {
             blocks,
             nodes,
+            offsets,
             succs,
             edges,
             args,
@@ -53,56 +70,78 @@ impl<'a> Graph<'a> {
         })
     }
 
+    /// The place of a block's first value, or behind the last value.
+    pub(crate) fn offset(&self, block: usize) -> usize
+        ensures { result ≡ slice_index_or self.now.offsets.items block (length self.now.nodes.items) }
+    {
+        self.offsets.get(block).copied().unwrap_or(self.nodes.len())
+    }
+
     /// The edges to a block, in the order of its predecessors.
-    pub(crate) fn edges_to(&self, block: usize) -> &[Edge] {
-        match self.edges.get(block) {
-            Some(edges) => edges,
-            None => &[],
-        }
+    pub(crate) fn edges_to(&self, block: usize) -> &[Edge]
+        ensures { result.now ≡ slice_index_or self.now.edges block [] }
+    {
+        self.edges.of(block)
     }
 
     /// The places of a value's arguments.
-    pub(crate) fn args_of(&self, value: usize) -> &[usize] {
-        match self.args.get(value) {
-            Some(args) => args,
-            None => &[],
-        }
+    pub(crate) fn args_of(&self, value: usize) -> &[usize]
+        ensures { result.now ≡ slice_index_or self.now.args value [] }
+    {
+        self.args.of(value)
     }
 
     /// The places of a block's successors.
-    pub(crate) fn succs_of(&self, block: usize) -> &[usize] {
-        match self.succs.get(block) {
-            Some(succs) => succs,
-            None => &[],
-        }
+    pub(crate) fn succs_of(&self, block: usize) -> &[usize]
+        ensures { result.now ≡ slice_index_or self.now.succs block [] }
+    {
+        self.succs.of(block)
     }
 
     /// The place of a block's control.
-    pub(crate) fn control_of(&self, block: usize) -> Option<usize> {
+    pub(crate) fn control_of(&self, block: usize) -> Option<usize>
+        ensures { result ≡ slice_index_or self.now.controls.items block None }
+    {
         self.controls.get(block).copied().unwrap_or(None)
     }
 }
 
-fn nodes<'a>(alloc: Global, blocks: &'a [Block]) -> Result<Vec<Node<'a>>, AllocError> {
-    let mut nodes = Vec::new(alloc);
+/// Lists the values of the blocks, and gives for each block how many values stand before its own, and last how many
+/// there are.
+#[tactic(auto, unfolding(crate::specs::Nodes::nodes_from, crate::specs::Nodes::offsets_from))]
+fn list_nodes<'a>(
+    alloc: Global,
+    nodes: &mut Vec<Node<'a>>,
+    blocks: &'a [Block],
+) -> Result<Vec<usize>, AllocError>
+    ensures nodes { OnOk result (nodes.new.items ≡ nodes.old.items ++ nodes_from 0 blocks.now) }
+    ensures offsets { IfOk result (λ offsets. offsets.items ≡ offsets_from (length nodes.old.items) blocks.now) }
+{
+    let mut offsets = Vec::new(alloc);
     for (place, block) in blocks.iter().enumerate() {
-        push_nodes(&mut nodes, place, &block.values)?;
+        offsets.push(nodes.len())?;
+        push_nodes(nodes, place, &block.values)?;
     }
-    Ok(nodes)
+    offsets.push(nodes.len())?;
+    Ok(offsets)
 }
 
 fn push_nodes<'a>(
     nodes: &mut Vec<Node<'a>>,
     block: usize,
     values: &'a [Value],
-) -> Result<(), AllocError> {
+) -> Result<(), AllocError>
+    ensures { OnOk result (nodes.new.items ≡ nodes.old.items ++ map (node_at block) values.now) }
+{
     for value in values {
         nodes.push(Node { block, value })?;
     }
     Ok(())
 }
 
-fn value_ids(alloc: Global, nodes: &[Node]) -> Result<Vec<u32>, AllocError> {
+fn value_ids(alloc: Global, nodes: &[Node]) -> Result<Vec<u32>, AllocError>
+    ensures { IfOk result (λ ids. ids.items ≡ value_ids nodes.now) }
+{
     let mut ids = Vec::with_capacity(alloc, nodes.len())?;
     for node in nodes {
         let value = node.value;
@@ -112,36 +151,45 @@ fn value_ids(alloc: Global, nodes: &[Node]) -> Result<Vec<u32>, AllocError> {
 }
 
 /// The places of these numbers.
-fn places_of(alloc: Global, places: &Places, numbers: &[u32]) -> Result<Vec<usize>, AllocError> {
+fn places_of(alloc: Global, places: &Places, numbers: &[u32]) -> Result<Vec<usize>, AllocError>
+    ensures { IfOk result (λ found. found.items ≡ map (place_by places.now) numbers.now) }
+{
     let mut found = Vec::with_capacity(alloc, numbers.len())?;
     for number in numbers {
-        found.push(place_or_none(places, *number))?;
+        found.push(place_or_past(places, *number))?;
     }
     Ok(found)
 }
 
 /// The place of the number, a place past the last where it names nothing.
-fn place_or_none(places: &Places, number: u32) -> usize {
-    match places.find(number) {
-        Some(place) => place,
-        None => usize::MAX,
-    }
+fn place_or_past(places: &Places, number: u32) -> usize
+    ensures { result ≡ place_by places.now number }
+{
+    or_past(places.find(number))
 }
 
-fn all_succs(
-    alloc: Global,
-    blocks: &[Block],
-    places: &Places,
-) -> Result<Vec<Vec<usize>>, AllocError> {
-    let mut succs = Vec::with_capacity(alloc, blocks.len())?;
+/// The place, one past every list where there is none.
+#[tactic(auto, unfolding(crate::specs::Nodes::or_past))]
+pub(crate) fn or_past(place: Option<usize>) -> usize
+    ensures { result ≡ or_past place }
+{
+    place.unwrap_or(usize::MAX)
+}
+
+fn all_succs(alloc: Global, blocks: &[Block], places: &Places) -> Result<Lists, AllocError>
+    ensures { IfOk result (λ succs. succs ≡ succ_places (place_by places.now) blocks.now) }
+{
+    let mut succs = Lists::with_capacity(alloc, blocks.len())?;
     for block in blocks {
         succs.push(places_of(alloc, places, &block.succs)?)?;
     }
     Ok(succs)
 }
 
-fn all_args(alloc: Global, nodes: &[Node], places: &Places) -> Result<Vec<Vec<usize>>, AllocError> {
-    let mut args = Vec::with_capacity(alloc, nodes.len())?;
+fn all_args(alloc: Global, nodes: &[Node], places: &Places) -> Result<Lists, AllocError>
+    ensures { IfOk result (λ args. args ≡ arg_places (place_by places.now) nodes.now) }
+{
+    let mut args = Lists::with_capacity(alloc, nodes.len())?;
     for node in nodes {
         let value = node.value;
         args.push(places_of(alloc, places, value.args.as_slice())?)?;
@@ -153,7 +201,9 @@ fn controls(
     alloc: Global,
     blocks: &[Block],
     places: &Places,
-) -> Result<Vec<Option<usize>>, AllocError> {
+) -> Result<Vec<Option<usize>>, AllocError>
+    ensures { IfOk result (λ controls. controls.items ≡ control_places (control_by places.now) blocks.now) }
+{
     let mut controls = Vec::with_capacity(alloc, blocks.len())?;
     for block in blocks {
         controls.push(control_place(places, block.control))?;
@@ -161,19 +211,17 @@ fn controls(
     Ok(controls)
 }
 
-fn control_place(places: &Places, control: Option<u32>) -> Option<usize> {
+fn control_place(places: &Places, control: Option<u32>) -> Option<usize>
+    ensures { result ≡ control_by places.now control }
+{
     match control {
         Some(number) => places.find(number),
         None => None,
     }
 }
 
-fn all_edges(
-    alloc: Global,
-    blocks: &[Block],
-    places: &Places,
-) -> Result<Vec<Vec<Edge>>, AllocError> {
-    let mut edges = Vec::with_capacity(alloc, blocks.len())?;
+fn all_edges(alloc: Global, blocks: &[Block], places: &Places) -> Result<EdgeLists, AllocError> {
+    let mut edges = EdgeLists::with_capacity(alloc, blocks.len())?;
     let mut ranks = vec![in alloc; 0; blocks.len()]?;
     for block in blocks {
         let preds = places_of(alloc, places, &block.preds)?;

@@ -4,6 +4,7 @@
 mod cleaned;
 mod critical;
 mod graph;
+mod lists;
 mod needed;
 mod order;
 mod places;

@@ -1,4 +1,8 @@
 // Which values are needed from a control, a nil check or a memory value.
+ghost use Rattle.std.specs.Prelude.{◌≡◌};
+ghost use Rattle.bk_graph.specs.Kinds.{is_memory, stays};
+ghost use Rattle.bk_graph.specs.Rebuilt.{is_needed};
+
 use crate::settled::{Settled, is_check, is_phi};
 use bk_func::Value;
 use bk_ops::{Family, Ty};
@@ -31,7 +35,9 @@ impl Needed {
         Ok(needed)
     }
 
-    pub(crate) fn has(&self, place: usize) -> bool {
+    pub(crate) fn has(&self, place: usize) -> bool
+        ensures { result ≡ is_needed self.now place }
+    {
         self.needed.get(place).copied().unwrap_or(false)
     }
 
@@ -92,7 +98,9 @@ impl Needed {
 }
 
 /// Whether the value is a nil check, or a memory value other than a phi.
-fn stays(value: &Value) -> bool {
+fn stays(value: &Value) -> bool
+    ensures { result ≡ stays value.now.op.family value.now.ty }
+{
     match value.op.family {
         Family::Phi | Family::Copy | Family::MakeResult => false,
         Family::StaticLECall => true,
@@ -100,7 +108,9 @@ fn stays(value: &Value) -> bool {
     }
 }
 
-fn is_memory(ty: Ty) -> bool {
+fn is_memory(ty: Ty) -> bool
+    ensures { result ≡ is_memory ty }
+{
     match ty {
         Ty::Mem => true,
         _ => false,

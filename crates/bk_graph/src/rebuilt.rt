@@ -1,5 +1,10 @@
 // The function that the settled rules leave.
-use crate::graph::Edge;
+ghost use Rattle.std.specs.Prelude.{◌≡◌, ◌++◌, ◌∷◌, [], ◌&&◌, ◌||◌, not, if◌then◌else◌, Some, None, option_map, slice_get, slice_index_or, IfOk, OnOk};
+ghost use Rattle.bk_graph.specs.Clean.{is_phi};
+ghost use Rattle.bk_graph.specs.Nodes.{or_past};
+ghost use Rattle.bk_graph.specs.Rebuilt.{edge_stays, number_at, standing, is_reached, is_needed, behind, only, kept_preds, kept_args, kept_value, kept_values, kept_control, ended, kept_block, kept_blocks, rebuilt};
+
+use crate::graph::{Edge, or_past};
 use crate::needed::Needed;
 use crate::settled::{Settled, is_phi};
 use bk_func::{Block, Func, Kind, Likely, Memory, Value, copy_sig};
@@ -12,7 +17,9 @@ pub(crate) fn rebuilt(
     func: &Func,
     settled: &Settled,
     needed: &Needed,
-) -> Result<Func, Memory> {
+) -> Result<Func, Memory>
+    ensures { IfOk result (λ left. left ≡ rebuilt settled.now needed.now func.now) }
+{
     let sig = copy_sig(alloc, &func.sig)?;
     let blocks = kept_blocks(alloc, settled, needed, &func.blocks)?;
     Ok(Func {
@@ -29,30 +36,47 @@ fn kept_blocks(
     settled: &Settled,
     needed: &Needed,
     blocks: &[Block],
-) -> Result<Vec<Block>, AllocError> {
+) -> Result<Vec<Block>, AllocError>
+    ensures { IfOk result (λ kept. kept.items ≡ kept_blocks settled.now needed.now blocks.now) }
+{
     let mut kept = Vec::new(alloc);
-    let mut first = 0usize;
     for (place, block) in blocks.iter().enumerate() {
-        if settled.is_reached(place) {
-            let edges = settled.graph.edges_to(place);
-            kept.push(kept_block(alloc, settled, needed, place, first, block, edges)?)?;
-        }
-        first = first.saturating_add(block.values.len());
+        push_block(alloc, &mut kept, settled, needed, place, block)?;
     }
     Ok(kept)
 }
 
-/// A block with the edges and values that stay. `first` is the place of its first value.
+/// Keeps the block, if it is reached.
+fn push_block(
+    alloc: Global,
+    kept: &mut Vec<Block>,
+    settled: &Settled,
+    needed: &Needed,
+    place: usize,
+    block: &Block,
+) -> Result<(), AllocError>
+    ensures { OnOk result (kept.new.items ≡ kept.old.items ++ (if is_reached settled.now place then kept_block settled.now needed.now place block.now ∷ [] else [])) }
+{
+    if !settled.is_reached(place) {
+        return Ok(());
+    }
+    kept.push(kept_block(alloc, settled, needed, place, block)?)?;
+    Ok(())
+}
+
+/// A block with the edges and values that stay.
 fn kept_block(
     alloc: Global,
     settled: &Settled,
     needed: &Needed,
     place: usize,
-    first: usize,
     block: &Block,
-    edges: &[Edge],
-) -> Result<Block, AllocError> {
-    let preds = kept(alloc, settled, edges, &block.preds)?;
+) -> Result<Block, AllocError>
+    ensures { IfOk result (λ kept. kept ≡ kept_block settled.now needed.now place block.now) }
+{
+    let edges = settled.graph.edges_to(place);
+    let first = settled.graph.offset(place);
+    let preds = kept_preds(alloc, settled, edges, &block.preds)?;
     let values = kept_values(alloc, settled, needed, first, &block.values, edges)?;
     match settled.taken_by(place) {
         Some(index) => Ok(Block {
@@ -60,14 +84,14 @@ fn kept_block(
             kind: Kind::Plain,
             control: None,
             preds,
-            succs: only(alloc, block, index)?,
+            succs: only(alloc, block.succs.get(index).copied())?,
             likely: Likely::No,
             values,
         }),
         None => Ok(Block {
             id: block.id,
             kind: block.kind,
-            control: settled_control(settled, place, block.control),
+            control: kept_control(settled, settled.graph.control_of(place), block.control),
             preds,
             succs: copied(alloc, &block.succs)?,
             likely: block.likely,
@@ -76,48 +100,80 @@ fn kept_block(
     }
 }
 
-/// The one successor at this place.
-fn only(alloc: Global, block: &Block, index: usize) -> Result<Vec<u32>, AllocError> {
-    let mut succs = Vec::with_capacity(alloc, 1)?;
-    if let Some(succ) = block.succs.get(index) {
-        succs.push(*succ)?;
+/// The one number, if there is one.
+fn only(alloc: Global, number: Option<u32>) -> Result<Vec<u32>, AllocError>
+    ensures { IfOk result (λ numbers. numbers.items ≡ only number) }
+{
+    let mut numbers = Vec::new(alloc);
+    if let Some(number) = number {
+        numbers.push(number)?;
     }
-    Ok(succs)
+    Ok(numbers)
 }
 
-fn copied(alloc: Global, numbers: &[u32]) -> Result<Vec<u32>, AllocError> {
-    let mut copy = Vec::with_capacity(alloc, numbers.len())?;
-    for number in numbers {
-        copy.push(*number)?;
-    }
-    Ok(copy)
+fn copied(alloc: Global, numbers: &[u32]) -> Result<Vec<u32>, AllocError>
+    ensures { IfOk result (λ copy. copy.items ≡ numbers.now) }
+{
+    Vec::from_slice(alloc, numbers)
 }
 
-/// The numbers whose edges stay.
-fn kept(
+/// The predecessors whose edges stay.
+fn kept_preds(
     alloc: Global,
     settled: &Settled,
     edges: &[Edge],
-    numbers: &[u32],
-) -> Result<Vec<u32>, AllocError> {
+    preds: &[u32],
+) -> Result<Vec<u32>, AllocError>
+    ensures { IfOk result (λ kept. kept.items ≡ kept_preds settled.now edges.now preds.now) }
+{
     let mut kept = Vec::new(alloc);
-    for (edge, number) in edges.iter().zip(numbers) {
-        if settled.has_edge(*edge) {
-            kept.push(*number)?;
-        }
+    for (place, pred) in preds.iter().enumerate() {
+        let stays = edge_stays(settled, edges, place);
+        push_if(&mut kept, stays, *pred)?;
     }
     Ok(kept)
 }
 
-fn settled_control(settled: &Settled, place: usize, control: Option<u32>) -> Option<u32> {
-    match settled.graph.control_of(place) {
-        Some(value) => number_at(settled, settled.root(value)),
-        None => control,
+fn push_if(kept: &mut Vec<u32>, stays: bool, number: u32) -> Result<(), AllocError>
+    ensures { OnOk result (kept.new.items ≡ kept.old.items ++ (if stays then number ∷ [] else [])) }
+{
+    if stays {
+        kept.push(number)?;
+    }
+    Ok(())
+}
+
+/// Whether there is an edge at the place and it stays.
+fn edge_stays(settled: &Settled, edges: &[Edge], place: usize) -> bool
+    ensures { result ≡ edge_stays settled.now (slice_get edges.now place) }
+{
+    match edges.get(place) {
+        Some(edge) => settled.has_edge(*edge),
+        None => false,
     }
 }
 
+/// The control under the number of what stands for it.
+fn kept_control(settled: &Settled, place: Option<usize>, control: Option<u32>) -> Option<u32>
+    ensures { result ≡ kept_control settled.now place control }
+{
+    match (place, control) {
+        (Some(place), Some(number)) => Some(standing(settled, place, number)),
+        _ => control,
+    }
+}
+
+/// The number of what stands for the value at the place, which has this number.
+fn standing(settled: &Settled, place: usize, number: u32) -> u32
+    ensures { result ≡ standing settled.now place number }
+{
+    number_at(settled, settled.root(place)).unwrap_or(number)
+}
+
 /// The number of the value at this place.
-fn number_at(settled: &Settled, place: usize) -> Option<u32> {
+fn number_at(settled: &Settled, place: usize) -> Option<u32>
+    ensures { result ≡ number_at settled.now place }
+{
     match settled.graph.nodes.get(place) {
         Some(node) => {
             let value = node.value;
@@ -135,15 +191,42 @@ fn kept_values(
     first: usize,
     values: &[Value],
     edges: &[Edge],
-) -> Result<Vec<Value>, AllocError> {
+) -> Result<Vec<Value>, AllocError>
+    ensures { IfOk result (λ kept. kept.items ≡ kept_values settled.now needed.now edges.now first values.now) }
+{
     let mut kept = Vec::new(alloc);
     for (index, value) in values.iter().enumerate() {
-        let place = first.saturating_add(index);
-        if needed.has(place) {
-            kept.push(kept_value(alloc, settled, place, value, edges)?)?;
-        }
+        let place = behind(first, index);
+        push_value(alloc, &mut kept, settled, needed, place, value, edges)?;
     }
     Ok(kept)
+}
+
+/// The place that lies so far behind this one.
+#[tactic(auto, unfolding(crate::specs::Rebuilt::behind))]
+fn behind(place: usize, count: usize) -> usize
+    ensures { result ≡ behind place count }
+{
+    place.saturating_add(count)
+}
+
+/// Keeps the value at this place, if it is needed.
+fn push_value(
+    alloc: Global,
+    kept: &mut Vec<Value>,
+    settled: &Settled,
+    needed: &Needed,
+    place: usize,
+    value: &Value,
+    edges: &[Edge],
+) -> Result<(), AllocError>
+    ensures { OnOk result (kept.new.items ≡ kept.old.items ++ (if is_needed needed.now place then kept_value settled.now edges.now place value.now ∷ [] else [])) }
+{
+    if !needed.has(place) {
+        return Ok(());
+    }
+    kept.push(kept_value(alloc, settled, place, value, edges)?)?;
+    Ok(())
 }
 
 /// A value with the arguments that stay, each as the value that stands for it.
@@ -153,35 +236,61 @@ fn kept_value(
     place: usize,
     value: &Value,
     edges: &[Edge],
-) -> Result<Value, AllocError> {
+) -> Result<Value, AllocError>
+    ensures { IfOk result (λ kept. kept ≡ kept_value settled.now edges.now place value.now) }
+{
+    let places = settled.graph.args_of(place);
+    let is_phi = is_phi(value.op.family);
+    let args = kept_args(alloc, settled, is_phi, edges, places, value.args.as_slice())?;
     Ok(Value {
         id: value.id,
         op: value.op,
         ty: value.ty,
-        args: kept_args(alloc, settled, place, is_phi(value.op.family), edges)?,
+        args,
         int: value.int,
         aux: value.aux,
     })
 }
 
+/// The arguments that stay, which have these places.
 fn kept_args(
     alloc: Global,
     settled: &Settled,
-    place: usize,
     is_phi: bool,
     edges: &[Edge],
-) -> Result<SmallVec<u32, 4>, AllocError> {
-    let mut args = SmallVec::new(alloc);
-    for (index, arg) in settled.graph.args_of(place).iter().enumerate() {
-        let stays = match edges.get(index) {
-            Some(edge) => !is_phi || settled.has_edge(*edge),
-            None => !is_phi,
-        };
-        if stays {
-            if let Some(number) = number_at(settled, settled.root(*arg)) {
-                args.push(number)?;
-            }
-        }
+    places: &[usize],
+    args: &[u32],
+) -> Result<SmallVec<u32, 4>, AllocError>
+    ensures { IfOk result (λ kept. kept.items ≡ kept_args settled.now is_phi edges.now places.now args.now) }
+{
+    let mut kept = SmallVec::new(alloc);
+    for (index, arg) in args.iter().enumerate() {
+        let stays = arg_stays(settled, is_phi, edges, index);
+        push_arg(&mut kept, stays, kept_arg(settled, places, index, *arg))?;
     }
-    Ok(args)
+    Ok(kept)
+}
+
+/// Whether the argument at this place stays.
+fn arg_stays(settled: &Settled, is_phi: bool, edges: &[Edge], place: usize) -> bool
+    ensures { result ≡ (not is_phi || edge_stays settled.now (slice_get edges.now place)) }
+{
+    !is_phi || edge_stays(settled, edges, place)
+}
+
+/// The number of what stands for the argument at this index, the value at its place having this number.
+fn kept_arg(settled: &Settled, places: &[usize], index: usize, number: u32) -> u32
+    ensures { result ≡ standing settled.now (or_past (slice_get places.now index)) number }
+{
+    let place = or_past(places.get(index).copied());
+    standing(settled, place, number)
+}
+
+fn push_arg(kept: &mut SmallVec<u32, 4>, stays: bool, number: u32) -> Result<(), AllocError>
+    ensures { OnOk result (kept.new.items ≡ kept.old.items ++ (if stays then number ∷ [] else [])) }
+{
+    if stays {
+        kept.push(number)?;
+    }
+    Ok(())
 }

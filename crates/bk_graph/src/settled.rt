@@ -1,4 +1,9 @@
 // Which branches are decided, which blocks are reached, and which values yield to others.
+ghost use Rattle.std.specs.Prelude.{◌≡◌, None, length, map, option_and_then, option_map, slice_get, slice_index_or, slice_set, IfOk};
+ghost use Rattle.bk_graph.specs.Clean.{is_phi, place_taken};
+ghost use Rattle.bk_graph.specs.Kinds.{is_check, is_passed, truth_of};
+ghost use Rattle.bk_graph.specs.Rebuilt.{is_reached, taken_by, goes_to, has_edge, root};
+
 use crate::graph::{Edge, Graph};
 use bk_func::Kind;
 use bk_ops::{ArmOp, Family, RvOp};
@@ -11,6 +16,8 @@ enum Task {
     Branch(usize),
     /// Whether the phi at this place takes one value.
     Phi(usize),
+    /// Whether the block at this place, which has lost edges to it, has others; if so, whether its phis take one value.
+    Block(usize),
 }
 
 /// What the rules have made of a function.
@@ -19,36 +26,37 @@ pub(crate) struct Settled<'a> {
     pub(crate) graph: &'a Graph<'a>,
     /// For each block the place of the one successor that it goes to, where it is decided.
     pub(crate) taken: Vec<Option<usize>>,
-    /// For each block whether a walk leads to it.
+    /// For each block whether it is reached, as far as is known.
     pub(crate) reached: Vec<bool>,
     /// For each value the place of the one that it yields to; its own where it stays.
     pub(crate) stands: Vec<usize>,
-    /// For each block how many edges to it there were when its phis were last looked at.
+    /// For each block how many edges to it there are.
     counts: Vec<usize>,
+    /// For each block whether it has lost edges and waits for being looked at.
+    waits: Vec<bool>,
     /// For each value what to look at again when it yields.
     watchers: Vec<Vec<Task>>,
     tasks: Vec<Task>,
-    /// Whether a branch was decided since the reached blocks were last searched for.
-    is_changed: bool,
 }
 
 impl<'a> Settled<'a> {
     /// The function after the rules on branches, unreached blocks, copies, nil checks and phis.
+    ///
+    /// An edge that goes is counted off at the block that it led to, and a block without edges to it goes with its own
+    /// edges. So a search from the entry is needed only for blocks that lead to each other and from nowhere else.
     pub(crate) fn new(alloc: Global, graph: &'a Graph<'a>) -> Result<Settled<'a>, AllocError> {
         let mut settled = Settled::begun(alloc, graph)?;
-        let rounds = graph.nodes.len().saturating_add(graph.blocks.len());
-        for _ in 0..rounds {
+        for _ in 0..graph.blocks.len() {
+            settled.attempt_all(alloc)?;
             settled.prune(alloc)?;
             if settled.tasks.is_empty() {
                 break;
             }
-            settled.attempt_all(alloc)?;
         }
-        settled.prune(alloc)?;
         Ok(settled)
     }
 
-    /// The function as it is; all its branches are to be looked at.
+    /// The function as it is; all its branches and blocks are to be looked at.
     fn begun(alloc: Global, graph: &'a Graph<'a>) -> Result<Settled<'a>, AllocError> {
         let blocks = graph.blocks.len();
         Ok(Settled {
@@ -56,17 +64,19 @@ impl<'a> Settled<'a> {
             taken: vec![in alloc; None; blocks]?,
             reached: vec![in alloc; true; blocks]?,
             stands: firsts(alloc, graph)?,
-            counts: vec![in alloc; usize::MAX; blocks]?,
+            counts: counts(alloc, graph)?,
+            waits: vec![in alloc; true; blocks]?,
             watchers: no_watchers(alloc, graph.nodes.len())?,
-            tasks: branches(alloc, blocks)?,
-            is_changed: true,
+            tasks: all_tasks(alloc, blocks)?,
         })
     }
 
     /// The place of the value that stands for the one at this place.
-    pub(crate) fn root(&self, place: usize) -> usize {
+    pub(crate) fn root(&self, place: usize) -> usize
+        ensures { result ≡ root self.now place }
+    {
         let mut at = place;
-        for _ in 0..self.stands.len() {
+        for _step in 0..self.stands.len() {
             let next = self.stand(at);
             if next == at {
                 return at;
@@ -91,27 +101,38 @@ impl<'a> Settled<'a> {
         at
     }
 
-    fn stand(&self, place: usize) -> usize {
+    fn stand(&self, place: usize) -> usize
+        ensures { result ≡ slice_index_or self.now.stands.items place place }
+    {
         self.stands.get(place).copied().unwrap_or(place)
     }
 
-    fn yield_to(&mut self, place: usize, other: usize) {
+    #[tactic(auto, using(bk_func::proofs::Places::set_past))]
+    fn yield_to(&mut self, place: usize, other: usize)
+        ensures { self.new.stands.items ≡ slice_set self.old.stands.items place other }
+    {
         if place < self.stands.len() {
             self.stands[place] = other;
         }
     }
 
     /// Whether the edge is there: its block is reached and goes there.
-    pub(crate) fn has_edge(&self, edge: Edge) -> bool {
+    pub(crate) fn has_edge(&self, edge: Edge) -> bool
+        ensures { result ≡ has_edge self.now edge }
+    {
         self.is_reached(edge.from) && self.goes(edge.from, edge.index)
     }
 
-    pub(crate) fn is_reached(&self, block: usize) -> bool {
+    pub(crate) fn is_reached(&self, block: usize) -> bool
+        ensures { result ≡ is_reached self.now block }
+    {
         self.reached.get(block).copied().unwrap_or(false)
     }
 
     /// Whether the block, if it is reached, goes to its successor at this place.
-    fn goes(&self, block: usize, index: usize) -> bool {
+    fn goes(&self, block: usize, index: usize) -> bool
+        ensures { result ≡ goes_to (taken_by self.now block) index }
+    {
         match self.taken_by(block) {
             Some(taken) => taken == index,
             None => true,
@@ -119,18 +140,21 @@ impl<'a> Settled<'a> {
     }
 
     /// The place of the one successor that the block goes to, where it is decided.
-    pub(crate) fn taken_by(&self, block: usize) -> Option<usize> {
+    pub(crate) fn taken_by(&self, block: usize) -> Option<usize>
+        ensures { result ≡ taken_by self.now block }
+    {
         self.taken.get(block).copied().unwrap_or(None)
     }
 
-    /// Searches for the reached blocks, if a branch was decided, and lists the phis of those that have lost edges.
+    /// Searches for the reached blocks. Those that are found not to be reached lose their edges.
     fn prune(&mut self, alloc: Global) -> Result<(), AllocError> {
-        if !self.is_changed {
-            return Ok(());
+        let reached = self.search(alloc)?;
+        for (block, is_reached) in reached.iter().enumerate() {
+            if !*is_reached && self.is_reached(block) {
+                self.leave(block)?;
+            }
         }
-        self.is_changed = false;
-        self.reached = self.search(alloc)?;
-        self.list_phis(alloc)
+        Ok(())
     }
 
     /// For each block whether a walk leads to it.
@@ -162,54 +186,97 @@ impl<'a> Settled<'a> {
         Ok(())
     }
 
-    /// Lists the phis of the reached blocks that have lost edges.
-    fn list_phis(&mut self, alloc: Global) -> Result<(), AllocError> {
-        let graph = self.graph;
-        for place in 0..graph.nodes.len() {
-            let node = graph.nodes[place];
-            let value = node.value;
-            if is_phi(value.op.family) && self.has_lost(node.block) {
-                self.tasks.push(Task::Phi(place))?;
+    /// Looks at what is listed, and at what is to be looked at because of it. Each time something is decided, yields or
+    /// is left, and each value and block does so once.
+    fn attempt_all(&mut self, alloc: Global) -> Result<(), AllocError> {
+        let blocks = self.graph.blocks.len();
+        let limit = self
+            .graph
+            .nodes
+            .len()
+            .saturating_add(blocks)
+            .saturating_add(blocks);
+        for _ in 0..=limit {
+            if self.tasks.is_empty() {
+                break;
             }
+            self.attempt_listed(alloc)?;
         }
-        self.counts = self.all_counts(alloc)?;
         Ok(())
     }
 
-    /// Whether the block is reached and has lost edges since they were counted.
-    fn has_lost(&self, block: usize) -> bool {
-        self.is_reached(block) && self.counts.get(block).copied() != Some(self.count(block))
-    }
-
-    /// How many edges to the block there are.
-    fn count(&self, block: usize) -> usize {
-        self.graph
-            .edges_to(block)
-            .iter()
-            .filter(|edge| self.has_edge(**edge))
-            .count()
-    }
-
-    /// For each block how many edges to it there are.
-    fn all_counts(&self, alloc: Global) -> Result<Vec<usize>, AllocError> {
-        let blocks = self.graph.blocks.len();
-        let mut counts = Vec::with_capacity(alloc, blocks)?;
-        for block in 0..blocks {
-            counts.push(self.count(block))?;
-        }
-        Ok(counts)
-    }
-
     /// Looks at what is listed; what is to be looked at because of it is listed anew.
-    fn attempt_all(&mut self, alloc: Global) -> Result<(), AllocError> {
+    fn attempt_listed(&mut self, alloc: Global) -> Result<(), AllocError> {
         let tasks = std::mem::replace(&mut self.tasks, Vec::new(alloc));
         for task in &tasks {
             match task {
                 Task::Branch(block) => self.attempt_branch(*block)?,
                 Task::Phi(place) => self.attempt_phi(alloc, *place)?,
+                Task::Block(block) => self.attempt_block(alloc, *block)?,
             }
         }
         Ok(())
+    }
+
+    /// Leaves the block, if no edge leads to it, else looks at its phis. The entry stays.
+    fn attempt_block(&mut self, alloc: Global, block: usize) -> Result<(), AllocError> {
+        if block < self.waits.len() {
+            self.waits[block] = false;
+        }
+        if !self.is_reached(block) {
+            return Ok(());
+        }
+        if block == 0 {
+            return Ok(());
+        }
+        if self.counts.get(block).copied() == Some(0) {
+            return self.leave(block);
+        }
+        let graph = self.graph;
+        for place in graph.offset(block)..graph.offset(block + 1) {
+            if self.is_phi(place) {
+                self.attempt_phi(alloc, place)?;
+            }
+        }
+        Ok(())
+    }
+
+    /// The block is not reached, and its edges go.
+    fn leave(&mut self, block: usize) -> Result<(), AllocError> {
+        if block < self.reached.len() {
+            self.reached[block] = false;
+        }
+        let graph = self.graph;
+        for (index, succ) in graph.succs_of(block).iter().enumerate() {
+            if self.goes(block, index) {
+                self.lose_edge(*succ)?;
+            }
+        }
+        Ok(())
+    }
+
+    /// Counts off an edge to the block, which is then to be looked at.
+    fn lose_edge(&mut self, block: usize) -> Result<(), AllocError> {
+        if self.counts.len() <= block || self.waits.len() <= block {
+            return Ok(());
+        }
+        self.counts[block] = self.counts[block].saturating_sub(1);
+        if !self.waits[block] {
+            self.tasks.push(Task::Block(block))?;
+            self.waits[block] = true;
+        }
+        Ok(())
+    }
+
+    /// Whether the value at this place is a phi.
+    fn is_phi(&self, place: usize) -> bool {
+        match self.graph.nodes.get(place) {
+            Some(node) => {
+                let value = node.value;
+                is_phi(value.op.family)
+            }
+            None => false,
+        }
     }
 
     /// Decides the block, if it has two successors and goes to a known one.
@@ -220,10 +287,7 @@ impl<'a> Settled<'a> {
         let blocks = self.graph.blocks;
         match blocks.get(block) {
             Some(it) => match it.kind {
-                Kind::First => {
-                    self.decide(block, 0);
-                    Ok(())
-                }
+                Kind::First => self.decide(block, 0),
                 Kind::If => self.attempt_control(block),
                 _ => Ok(()),
             },
@@ -238,29 +302,36 @@ impl<'a> Settled<'a> {
         };
         let root = self.shorten(control);
         match self.constant(root) {
-            Some(int) => {
-                self.decide(block, place_taken(int));
-                Ok(())
-            }
+            Some(int) => self.decide(block, place_taken(int)),
             None => self.watch(root, Task::Branch(block)),
         }
     }
 
     /// The number of the truth value at this place, if it is a constant.
-    fn constant(&self, place: usize) -> Option<i64> {
-        let node = self.graph.nodes.get(place)?;
-        let value = node.value;
-        match value.op.family {
-            Family::ConstBool => Some(value.int),
-            _ => None,
+    fn constant(&self, place: usize) -> Option<i64>
+        ensures { result ≡ option_and_then (λ n. truth_of n.value.op.family n.value.int) (slice_get self.now.graph.now.nodes.items place) }
+    {
+        match self.graph.nodes.get(place) {
+            Some(node) => {
+                let value = node.value;
+                truth_of(value.op.family, value.int)
+            }
+            None => None,
         }
     }
 
-    fn decide(&mut self, block: usize, index: usize) {
+    /// The block goes to its successor at this place alone: its other edges go.
+    fn decide(&mut self, block: usize, taken: usize) -> Result<(), AllocError> {
         if block < self.taken.len() {
-            self.taken[block] = Some(index);
-            self.is_changed = true;
+            self.taken[block] = Some(taken);
         }
+        let graph = self.graph;
+        for (index, succ) in graph.succs_of(block).iter().enumerate() {
+            if index != taken {
+                self.lose_edge(*succ)?;
+            }
+        }
+        Ok(())
     }
 
     fn watch(&mut self, place: usize, task: Task) -> Result<(), AllocError> {
@@ -341,19 +412,35 @@ fn visit(reached: &mut Vec<bool>, order: &mut Vec<usize>, block: usize) -> Resul
     Ok(())
 }
 
+/// The number beside a constant truth value.
+fn truth_of(family: Family, int: i64) -> Option<i64>
+    ensures { result ≡ truth_of family int }
+{
+    match family {
+        Family::ConstBool => Some(int),
+        _ => None,
+    }
+}
+
 /// The place of the successor that a truth value takes.
-fn place_taken(int: i64) -> usize {
+fn place_taken(int: i64) -> usize
+    ensures { result ≡ place_taken int }
+{
     if int == 0 { 1 } else { 0 }
 }
 
-pub(crate) fn is_phi(family: Family) -> bool {
+pub(crate) fn is_phi(family: Family) -> bool
+    ensures { result ≡ is_phi family }
+{
     match family {
         Family::Phi => true,
         _ => false,
     }
 }
 
-pub(crate) fn is_check(family: Family) -> bool {
+pub(crate) fn is_check(family: Family) -> bool
+    ensures { result ≡ is_check family }
+{
     match family {
         Family::NilCheck | Family::Arm(ArmOp::Nil) | Family::Rv(RvOp::Nil) => true,
         _ => false,
@@ -361,7 +448,9 @@ pub(crate) fn is_check(family: Family) -> bool {
 }
 
 /// Whether a use of such a value becomes a use of its first argument.
-fn is_passed(family: Family) -> bool {
+fn is_passed(family: Family) -> bool
+    ensures { result ≡ is_passed family }
+{
     match family {
         Family::Copy => true,
         _ => is_check(family),
@@ -396,10 +485,22 @@ fn no_watchers(alloc: Global, count: usize) -> Result<Vec<Vec<Task>>, AllocError
     Ok(watchers)
 }
 
-fn branches(alloc: Global, blocks: usize) -> Result<Vec<Task>, AllocError> {
+/// For each block how many edges to it there are.
+fn counts(alloc: Global, graph: &Graph) -> Result<Vec<usize>, AllocError>
+    ensures { IfOk result (λ counts. counts.items ≡ map (λ b. length b.preds) graph.now.blocks.now) }
+{
+    let mut counts = Vec::with_capacity(alloc, graph.blocks.len())?;
+    for block in graph.blocks {
+        counts.push(block.preds.len())?;
+    }
+    Ok(counts)
+}
+
+fn all_tasks(alloc: Global, blocks: usize) -> Result<Vec<Task>, AllocError> {
     let mut tasks = Vec::with_capacity(alloc, blocks)?;
     for block in 0..blocks {
         tasks.push(Task::Branch(block))?;
+        tasks.push(Task::Block(block))?;
     }
     Ok(tasks)
 }

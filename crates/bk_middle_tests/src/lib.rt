@@ -1,8 +1,12 @@
-//! Tests of the work on one function, between its text and its code: orders of blocks. Worked rows and small functions, over
-//! the public calls.
+//! Tests of the work on one function, between its text and its code: orders of blocks, calls in words, rules of a machine.
+//! Worked rows and small functions, over the public calls.
 //!
 //! Tests of the larger crates stand in crates of their own, so that no crate is proved a second time for its tests.
 #![tactic(auto)]
 
 #[cfg(test)]
+mod calls;
+#[cfg(test)]
 mod graph;
+#[cfg(test)]
+mod rules_rv;

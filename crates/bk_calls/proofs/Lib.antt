@@ -1,0 +1,5 @@
+pub mod Found
+pub mod Noted
+pub mod Planned
+pub mod Linked
+pub mod Renumbered

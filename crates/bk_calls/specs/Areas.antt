@@ -1,0 +1,73 @@
+-- A function after its arguments, results and calls went to words.
+--
+-- The words of a signature are its arguments, then its results, one word each, two for 64 bits on arm.
+use Rattle.std.specs.Prelude.{ℕ, ◌+◌, ◌==◌, Bool, not, ◌&&◌, nat_le, List, [], ◌∷◌, ◌++◌, length, filter, find, flat_map, sum_by, Option, Some, None, option_map, unwrap_or}
+use Rattle.bk_ops.specs.declared.types.Target.{Target}
+use Rattle.bk_ops.specs.declared.types.Ty.{Ty}
+use Rattle.bk_func.specs.Records.{ValueRecord, BlockRecord, FuncRecord, SigRecord, PackageRecord}
+use Rattle.bk_func.specs.Edits.{greatest_value}
+use Rattle.bk_func.specs.Words.{count_words}
+use Rattle.bk_func.specs.Form.Signatures.{sig_of}
+use Rattle.bk_calls.specs.Chains.{WordPlan, role, is_call, is_results, last, queued, chained, turned}
+
+-- elements, each changed under a number: the first under n, each other under the number after those that the ones before
+-- it take
+unfoldable pub numbered : {A B : Type 0} → (ℕ → A → B) → (A → ℕ) → ℕ → List A → List B
+numbered change takes n [] = []
+numbered change takes n (x ∷ xs) = change n x ∷ numbered change takes (n + takes x) xs
+
+-- how many values are made for a value
+abbrev pub made_for : ValueRecord → ℕ
+made_for v = length (queued v)
+
+-- the value ends a function without results
+abbrev pub is_end : ValueRecord → Bool
+is_end v = is_results (role v) && nat_le (length v.args) 1
+
+abbrev pub stays : ValueRecord → Bool
+stays v = not (is_end v)
+
+-- the values of a block in their places, where the made ones are numbered from n on and stand last
+abbrev pub area_values : WordPlan → ℕ → List ValueRecord → List ValueRecord
+area_values p n vs = numbered (turned p) made_for n vs ++ flat_map (λ ws. ws) (numbered (chained p) made_for n vs)
+
+abbrev pub area_control : WordPlan → Option ℕ → Option ℕ
+area_control p None = None
+area_control p (Some c) = Some (unwrap_or (p.ends c) c)
+
+abbrev pub area_block : WordPlan → ℕ → BlockRecord → BlockRecord
+area_block p n b = record b { control = area_control p b.control; values = area_values p n (filter stays b.values) }
+
+abbrev pub made_in : BlockRecord → ℕ
+made_in b = sum_by made_for (filter stays b.values)
+
+-- the types of a callee's arguments
+abbrev pub args_of : Option SigRecord → List Ty
+args_of None = []
+args_of (Some g) = g.args
+
+-- the first word of a call's results is behind those of its arguments
+abbrev pub result_word : PackageRecord → Target → ValueRecord → ℕ
+result_word p t v = count_words t (args_of (sig_of p v.aux))
+
+abbrev pub call_named : List ValueRecord → ℕ → Option ValueRecord
+call_named vs n = find (λ v. is_call (role v) && v.id == n) vs
+
+abbrev pub end_named : List ValueRecord → ℕ → Option ValueRecord
+end_named vs n = find (λ v. is_end v && v.id == n) vs
+
+-- which words the calls of blocks, and a function with arguments of these types, have
+abbrev pub plan_in : PackageRecord → Target → List BlockRecord → List Ty → WordPlan
+plan_in p t bs args =
+    let vs = flat_map (λ b. b.values) bs in record {
+      results = λ n. unwrap_or (option_map (result_word p t) (call_named vs n)) 0;
+      ends = λ n. option_map (λ v. last v.args) (end_named vs n);
+      own = count_words t args;
+    }
+
+abbrev pub plan_of : PackageRecord → Target → FuncRecord → WordPlan
+plan_of p t f = plan_in p t f.blocks f.sig.args
+
+-- the function in words; the made values are numbered from the greatest number upwards
+abbrev pub areas_of : PackageRecord → Target → FuncRecord → FuncRecord
+areas_of p t f = record f { blocks = numbered (area_block (plan_of p t f)) made_in (greatest_value f + 1) f.blocks }

@@ -1,0 +1,5 @@
+pub mod Areas
+pub mod Budget
+pub mod Chains
+pub mod Frame
+pub mod Plans

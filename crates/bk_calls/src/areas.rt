@@ -1,0 +1,137 @@
+// The function in words.
+ghost use Rattle.std.specs.Prelude.{◌≡◌, ◌+◌, ◌++◌, filter, flat_map, sum_by, true, false, IfOk, OnOk, IfErr, ◌⊎◌};
+ghost use Rattle.bk_calls.specs.Areas.{areas_of, area_block, area_control, area_values, made_for, made_in, numbered, stays};
+ghost use Rattle.bk_calls.specs.Budget.{is_grown};
+ghost use Rattle.bk_calls.specs.Chains.{turned, chained};
+ghost use Rattle.bk_calls.specs.Plans.{seen_plan};
+
+use crate::budget::{VALUE_LIMIT, count_after, count_values};
+use crate::plan::{Plan, is_end};
+use crate::turn::turn;
+use bk_func::{Block, Func, Package, RewriteError, Value, greatest_value};
+use bk_ops::Target;
+use std::alloc::{AllocError, Global};
+
+/// Puts the arguments and results of a function, and of the calls in it, into words: `Arg` becomes `ARGWORD`, a call a
+/// chain of `OUTWORD` and `CALL`, `SelectN` `RESWORD` or a copy of memory, `MakeResult` a chain of `RETWORD`; a call of
+/// a function that panics becomes `TRAP`. The word of an argument or a result is its place; on arm these places count
+/// words.
+///
+/// Each value keeps its number and place. What is made for it is numbered from the greatest number upwards, and stands
+/// last in the block. A `MakeResult` without results goes, and its memory is the control in its place.
+///
+/// It answers Grown where a value past 32,768 would be added. After want of memory the function is unfinished.
+pub fn word_areas(
+    alloc: Global,
+    func: &mut Func,
+    pkg: &Package,
+    target: Target,
+) -> Result<(), RewriteError>
+    ensures ok { OnOk result (func.new ≡ areas_of pkg.now target func.old) }
+    ensures room { OnOk result (is_grown func.old ≡ false) }
+    ensures grown { IfErr result (λ e. (e ≡ RewriteError.Memory) ⊎ ((e ≡ RewriteError.Grown 32769) × (is_grown func.old ≡ true))) }
+{
+    let Some(count) = count_values(&func.blocks) else {
+        return Err(RewriteError::Memory);
+    };
+    if count_after(&func.blocks, count).is_none() {
+        return Err(RewriteError::Grown {
+            values: VALUE_LIMIT + 1,
+        });
+    }
+    match put_in_words(alloc, func, pkg, target) {
+        Ok(()) => Ok(()),
+        Err(AllocError) => Err(RewriteError::Memory),
+    }
+}
+
+fn put_in_words(
+    alloc: Global,
+    func: &mut Func,
+    pkg: &Package,
+    target: Target,
+) -> Result<(), AllocError>
+    ensures { OnOk result (func.new ≡ areas_of pkg.now target func.old) }
+{
+    let plan = Plan::new(alloc, func, pkg, target)?;
+    let Some(first) = greatest_value(func).checked_add(1) else {
+        return Err(AllocError);
+    };
+    turn_blocks(alloc, &plan, &mut func.blocks, first)
+}
+
+fn turn_blocks(
+    alloc: Global,
+    plan: &Plan,
+    blocks: &mut [Block],
+    first: u32,
+) -> Result<(), AllocError>
+    ensures { OnOk result (blocks.new ≡ numbered (area_block (seen_plan plan.now)) made_in first blocks.old) }
+{
+    let mut next = first;
+    for block in blocks.iter_mut() {
+        next = turn_block(alloc, plan, block, next)?;
+    }
+    Ok(())
+}
+
+/// Turns the values of a block, and gives the number after those that are made.
+fn turn_block(alloc: Global, plan: &Plan, block: &mut Block, first: u32) -> Result<u32, AllocError>
+    ensures block { OnOk result (block.new ≡ area_block (seen_plan plan.now) first block.old) }
+    ensures next { IfOk result (λ n. n ≡ first + made_in block.old) }
+{
+    block.control = turn_control(plan, block.control);
+    keep_values(&mut block.values);
+    turn_and_append(alloc, plan, &mut block.values, first)
+}
+
+/// The control, or the memory behind it where it ends a function without results.
+fn turn_control(plan: &Plan, control: Option<u32>) -> Option<u32>
+    ensures { result ≡ area_control (seen_plan plan.now) control }
+{
+    match control {
+        Some(control) => Some(plan.control(control)),
+        None => None,
+    }
+}
+
+/// Drops the values that end a function without results.
+fn keep_values(values: &mut Vec<Value>)
+    ensures { values.new.items ≡ filter stays values.old.items }
+{
+    values.retain(|value| !is_end(value));
+}
+
+fn turn_and_append(
+    alloc: Global,
+    plan: &Plan,
+    values: &mut Vec<Value>,
+    first: u32,
+) -> Result<u32, AllocError>
+    ensures values { OnOk result (values.new.items ≡ area_values (seen_plan plan.now) first values.old.items) }
+    ensures next { IfOk result (λ n. n ≡ first + sum_by made_for values.old.items) }
+{
+    let mut made = Vec::new(alloc);
+    let next = turn_values(alloc, plan, values, &mut made, first)?;
+    values.append(&mut made)?;
+    Ok(next)
+}
+
+/// Turns the values one after the other, and lists what is made for them.
+fn turn_values(
+    alloc: Global,
+    plan: &Plan,
+    values: &mut [Value],
+    made: &mut Vec<Value>,
+    first: u32,
+) -> Result<u32, AllocError>
+    ensures values { OnOk result (values.new ≡ numbered (turned (seen_plan plan.now)) made_for first values.old) }
+    ensures made { OnOk result (made.new.items ≡ made.old.items ++ flat_map (λ ws. ws) (numbered (chained (seen_plan plan.now)) made_for first values.old)) }
+    ensures next { IfOk result (λ n. n ≡ first + sum_by made_for values.old) }
+{
+    let mut next = first;
+    for value in values.iter_mut() {
+        next = turn(alloc, plan, value, made, next)?;
+    }
+    Ok(next)
+}

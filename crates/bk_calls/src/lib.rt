@@ -1,0 +1,15 @@
+//! Calls in words: the arguments and results of calls go to words of memory, and the frames that hold them.
+#![tactic(auto)]
+
+mod areas;
+mod budget;
+mod callees;
+mod chains;
+mod frame;
+mod plan;
+mod role;
+mod turn;
+
+pub use areas::word_areas;
+pub use bk_func::RewriteError;
+pub use frame::{FrameError, frame_of};

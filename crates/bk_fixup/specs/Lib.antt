@@ -1,0 +1,5 @@
+pub mod Keys
+pub mod Patches
+pub mod Pieces
+pub mod Rounds
+pub mod Sizes

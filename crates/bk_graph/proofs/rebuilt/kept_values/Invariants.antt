@@ -1,0 +1,6 @@
+use Rattle.std.proofs.Common.{◌≡◌, take}
+use Rattle.bk_graph.specs.Rebuilt.{kept_values}
+use Rattle.bk_graph.proofs.rebuilt.kept_values.Given as goal
+
+abbrev pub invariant-loop-index : goal.invariant-loop-index
+invariant-loop-index l = l.kept.items ≡ kept_values l.settled l.needed l.edges l.first (take l.index l.values)

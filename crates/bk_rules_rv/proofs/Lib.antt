@@ -1,0 +1,12 @@
+pub mod Bits
+pub mod Extended
+pub mod LowBits
+pub mod Products
+pub mod SoundAccesses
+pub mod SoundArithmetic
+pub mod SoundComparisons
+pub mod SoundConversions
+pub mod SoundImmediates
+pub mod SoundShifts
+pub mod Unsound
+pub mod WholeList
