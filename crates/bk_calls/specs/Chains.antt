@@ -61,11 +61,12 @@ abbrev pub memory_after : ℕ → ℕ → List ℕ → ℕ
 memory_after n memory [] = memory
 memory_after n memory (x ∷ xs) = memory_after (n + 1) n xs
 
--- the numbers that go to words by values of their own: the arguments of a call, and the results but the last
+-- no numbers where a call is a trap
 abbrev pub without_trap : Option ℕ → List ℕ → List ℕ
 without_trap None xs = xs
 without_trap (Some k) xs = []
 
+-- the numbers that go to words by values of their own: the arguments of a call, and the results but the last
 abbrev pub queued_by : Role → ValueRecord → List ℕ
 queued_by Call v = without_trap (trap_of v.aux) (front v.args)
 queued_by Results v = front (front v.args)
@@ -110,7 +111,6 @@ turned_by Other p n v = v
 abbrev pub turned : WordPlan → ℕ → ValueRecord → ValueRecord
 turned p n v = turned_by (role v) p n v
 
--- the value ends a function without results: it goes
 abbrev pub is_results : Role → Bool
 is_results Results = true
 is_results _ = false

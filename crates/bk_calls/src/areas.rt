@@ -20,7 +20,8 @@ use std::alloc::{AllocError, Global};
 /// Each value keeps its number and place. What is made for it is numbered from the greatest number upwards, and stands
 /// last in the block. A `MakeResult` without results goes, and its memory is the control in its place.
 ///
-/// It answers Grown where a value past 32,768 would be added. After want of memory the function is unfinished.
+/// It answers Grown where a value past 32,768 would be added, and leaves the function as before. After want of memory
+/// the function is unfinished.
 pub fn word_areas(
     alloc: Global,
     func: &mut Func,
@@ -30,6 +31,7 @@ pub fn word_areas(
     ensures ok { OnOk result (func.new ≡ areas_of pkg.now target func.old) }
     ensures room { OnOk result (is_grown func.old ≡ false) }
     ensures grown { IfErr result (λ e. (e ≡ RewriteError.Memory) ⊎ ((e ≡ RewriteError.Grown 32769) × (is_grown func.old ≡ true))) }
+    ensures kept { IfErr result (λ e. e ≡ RewriteError.Grown 32769 → func.new ≡ func.old) }
 {
     let Some(count) = count_values(&func.blocks) else {
         return Err(RewriteError::Memory);

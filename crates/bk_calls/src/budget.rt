@@ -3,10 +3,10 @@ ghost use Rattle.std.specs.Prelude.{◌≡◌, fold, length, sum_by, Some, IfSom
 ghost use Rattle.bk_calls.specs.Budget.{value_count, counted, count_next};
 ghost use Rattle.bk_calls.specs.Areas.{made_for};
 
-use crate::callees::{PANIC_DIVIDE, PANIC_SHIFT};
+use crate::callees::trap_of;
 use crate::plan::is_end;
 use crate::role::{Role, role_of};
-use bk_func::{Aux, Block, Value};
+use bk_func::{Block, Value};
 
 /// The most values that a function may have.
 pub(crate) const VALUE_LIMIT: u64 = 32_768;
@@ -72,9 +72,9 @@ fn made_for(value: &Value) -> u64
 {
     let args = value.args.len() as u64;
     match role_of(value.op.family) {
-        Role::Call => match value.aux {
-            Aux::Sym(PANIC_DIVIDE | PANIC_SHIFT) => 0,
-            _ => args.saturating_sub(1),
+        Role::Call => match trap_of(value.aux) {
+            Some(_) => 0,
+            None => args.saturating_sub(1),
         },
         Role::Results => args.saturating_sub(2),
         _ => 0,

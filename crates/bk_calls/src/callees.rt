@@ -4,6 +4,7 @@ ghost use Rattle.std.specs.List.{find};
 ghost use Rattle.std.specs.Option.{option_or};
 ghost use Rattle.bk_func.specs.Form.Signatures.{sig_named, sig_of};
 ghost use Rattle.bk_calls.specs.Areas.{args_of};
+ghost use Rattle.bk_calls.specs.Chains.{trap_of};
 ghost use Rattle.bk_calls.specs.Plans.{AreCallees};
 
 use bk_func::{Aux, Func, Package};
@@ -11,9 +12,20 @@ use bk_ops::Ty;
 use std::alloc::{AllocError, Global};
 
 /// The symbol of `runtime.panicdivide`, a function without arguments.
-pub(crate) const PANIC_DIVIDE: u32 = 4_294_967_294;
+const PANIC_DIVIDE: u32 = 4_294_967_294;
 /// The symbol of `runtime.panicshift`, a function without arguments.
-pub(crate) const PANIC_SHIFT: u32 = 4_294_967_295;
+const PANIC_SHIFT: u32 = 4_294_967_295;
+
+/// The trap that a call stands for: the callee panics.
+pub(crate) fn trap_of(aux: Aux) -> Option<u8>
+    ensures { result ≡ trap_of aux }
+{
+    match aux {
+        Aux::Sym(PANIC_DIVIDE) => Some(3),
+        Aux::Sym(PANIC_SHIFT) => Some(4),
+        _ => None,
+    }
+}
 
 /// A package with the place of the first function of each name, the name's number being the index.
 #[derive(Drop)]

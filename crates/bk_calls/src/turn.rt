@@ -5,7 +5,7 @@ ghost use Rattle.bk_calls.specs.Chains.{WordPlan, trap_of, without_trap, front, 
 ghost use Rattle.bk_calls.specs.Areas.{made_for};
 ghost use Rattle.bk_calls.specs.Plans.{seen_plan};
 
-use crate::callees::{PANIC_DIVIDE, PANIC_SHIFT};
+use crate::callees::trap_of;
 use crate::chains::{Link, front, last, plain, push_chain};
 use crate::plan::Plan;
 use crate::role::{Role, role_of};
@@ -78,17 +78,6 @@ fn turn_call(
             Ok(next)
         }
         None => turn_to_call(alloc, value, made, next),
-    }
-}
-
-/// The trap that a call stands for: the callee panics.
-fn trap_of(aux: Aux) -> Option<u8>
-    ensures { result ≡ trap_of aux }
-{
-    match aux {
-        Aux::Sym(PANIC_DIVIDE) => Some(3),
-        Aux::Sym(PANIC_SHIFT) => Some(4),
-        _ => None,
     }
 }
 

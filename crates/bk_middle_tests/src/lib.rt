@@ -1,4 +1,4 @@
-//! Tests of the work on one function, between its text and its code: orders of blocks, calls in words, rules of a machine.
+//! Tests of the work on one function, between its text and its code: rules applied, orders of blocks, calls in words.
 //! Worked rows and small functions, over the public calls.
 //!
 //! Tests of the larger crates stand in crates of their own, so that no crate is proved a second time for its tests.
@@ -8,5 +8,7 @@
 mod calls;
 #[cfg(test)]
 mod graph;
+#[cfg(test)]
+mod rewrite;
 #[cfg(test)]
 mod rules_rv;

@@ -107,6 +107,36 @@ pub(crate) enum Widths {
 #[derive(Clone, Copy)]
 pub(crate) struct Line(pub(crate) Shape, pub(crate) Widths);
 
+const NARROW_BY_EACH: [(u8, u8); 12] = [
+    (32, 64),
+    (16, 64),
+    (8, 64),
+    (32, 32),
+    (16, 32),
+    (8, 32),
+    (32, 16),
+    (16, 16),
+    (8, 16),
+    (32, 8),
+    (16, 8),
+    (8, 8),
+];
+
+const EACH_BY_NARROW: [(u8, u8); 12] = [
+    (64, 32),
+    (64, 16),
+    (64, 8),
+    (32, 32),
+    (32, 16),
+    (32, 8),
+    (16, 32),
+    (16, 16),
+    (16, 8),
+    (8, 32),
+    (8, 16),
+    (8, 8),
+];
+
 /// The widths w and v, in order.
 #[tactic(auto, unfolding(crate::specs::Lines::pairs))]
 pub(crate) fn pairs(widths: Widths) -> &'static [(u8, u8)]
@@ -118,34 +148,8 @@ pub(crate) fn pairs(widths: Widths) -> &'static [(u8, u8)]
         Widths::Byte => &[(8, 0)],
         Widths::Each => &[(64, 0), (32, 0), (16, 0), (8, 0)],
         Widths::Narrow => &[(32, 0), (16, 0), (8, 0)],
-        Widths::NarrowByEach => &[
-            (32, 64),
-            (16, 64),
-            (8, 64),
-            (32, 32),
-            (16, 32),
-            (8, 32),
-            (32, 16),
-            (16, 16),
-            (8, 16),
-            (32, 8),
-            (16, 8),
-            (8, 8),
-        ],
-        Widths::EachByNarrow => &[
-            (64, 32),
-            (64, 16),
-            (64, 8),
-            (32, 32),
-            (32, 16),
-            (32, 8),
-            (16, 32),
-            (16, 16),
-            (16, 8),
-            (8, 32),
-            (8, 16),
-            (8, 8),
-        ],
+        Widths::NarrowByEach => &NARROW_BY_EACH,
+        Widths::EachByNarrow => &EACH_BY_NARROW,
         Widths::EachByWord => &[(64, 64), (32, 64), (16, 64), (8, 64)],
         Widths::WordByNarrow => &[(64, 32), (64, 16), (64, 8)],
         Widths::WordByWord => &[(64, 64)],
