@@ -1,4 +1,5 @@
-//! Tests of the work on one function, between its text and its code: rules applied, orders of blocks, calls in words.
+//! Tests of the work on one function, between its text and its code: rules applied, orders of blocks and values, calls in
+//! words.
 //! Worked rows and small functions, over the public calls.
 //!
 //! Tests of the larger crates stand in crates of their own, so that no crate is proved a second time for its tests.
@@ -12,3 +13,5 @@ mod graph;
 mod rewrite;
 #[cfg(test)]
 mod rules_rv;
+#[cfg(test)]
+mod sched;

@@ -1,0 +1,29 @@
+use Rattle.std.proofs.Common.{◌≡◌, ◌∙◌, ◌↔◌, sym, ap, subst, ℕ, Bool, List, length, true, false, Some, arith}
+use Rattle.std.specs.List.{slice_get}
+use Rattle.std.proofs.lemmas.Option.{same_Some}
+use Rattle.std.proofs.lemmas.Result.{IfOk-weaker}
+use Rattle.bk_func.specs.Records.{ValueRecord}
+use Rattle.bk_sched.specs.Arranged.{HasRole}
+use Rattle.bk_sched.proofs.Grouping.{listed_of}
+use Rattle.bk_sched.proofs.Listing.{Filled, filled_more, item_at}
+use Rattle.bk_sched.proofs.order.players.Goals as goal
+
+pub loop-value-preserved : goal.loop-value-preserved
+loop-value-preserved c =
+    let same = c.deref-value-items.ensures.value ∙ ap (λ b. b.values) c.block.view_is in
+    let at = item_at same c.loop-value.value-index c.value-item.result c.loop-value-test.true c.value-item.is in
+    filled_more c.loop-value.invariant c.has_role-plays.result c.push.new.self.items
+    (λ v e. subst (λ (w : ValueRecord). (c.has_role-plays.result ≡ true) ↔ HasRole c.args.role w) (same_Some c.value-item.result v (sym at ∙ e)) c.has_role-plays.ensures) c.in_ok-push.ensures.items
+
+pub members-requires : goal.members-requires
+members-requires c = c.requires.names
+
+pub returns : goal.returns
+returns c =
+    let vs = c.args.block.now.values in
+    let same = c.deref-value-items.ensures.value ∙ ap (λ b. b.values) c.block.view_is in
+    let end : c.loop-value.value-index ≡ length c.deref-value-items.result.now = omega arith in
+    let picked = subst (λ (bs : List Bool). Filled (λ (p : ℕ) (b : Bool). (v : ValueRecord) → slice_get vs p ≡ Some v → (b ≡ true) ↔ HasRole c.args.role v) false bs c.loop-value.value-index) (sym c.deref.ensures.value) c.loop-value.invariant in
+    IfOk-weaker c.members.result _ _
+    (λ es h. listed_of vs c.args.states c.args.names.now (HasRole c.args.role) c.deref.result.now c.loop-value.value-index es c.requires.size (end ∙ ap length same) picked h)
+    c.members.ensures

@@ -1,0 +1,6 @@
+pub mod Arranged
+pub mod Named
+pub mod Order
+pub mod Schedule
+pub mod Search
+pub mod Turns
