@@ -1,5 +1,5 @@
-//! Tests of the work on one function, between its text and its code: rules applied, orders of blocks and values, calls in
-//! words.
+//! Tests of the work on one function, between its text and its code: rules applied, orders of blocks and values, what
+//! is live, calls in words.
 //! Worked rows and small functions, over the public calls.
 //!
 //! Tests of the larger crates stand in crates of their own, so that no crate is proved a second time for its tests.
@@ -9,6 +9,8 @@
 mod calls;
 #[cfg(test)]
 mod graph;
+#[cfg(test)]
+mod live;
 #[cfg(test)]
 mod rewrite;
 #[cfg(test)]

@@ -1,0 +1,16 @@
+pub mod Adding
+pub mod Alone
+pub mod Beginning
+pub mod Clearing
+pub mod Edging
+pub mod Entering
+pub mod Homing
+pub mod Listing
+pub mod Living
+pub mod Rowing
+pub mod Scanning
+pub mod Searching
+pub mod Seeing
+pub mod Spotting
+pub mod Using
+pub mod Waiting

@@ -1,0 +1,9 @@
+pub mod Adds
+pub mod Edges
+pub mod Homes
+pub mod Live
+pub mod Prepared
+pub mod Rows
+pub mod Search
+pub mod Seen
+pub mod Uses

@@ -1,0 +1,15 @@
+//! Values that are live where blocks begin, and the distances to their next uses.
+#![tactic(auto)]
+
+mod edges;
+mod homes;
+mod live;
+mod next;
+mod places;
+mod rows;
+mod search;
+mod uses;
+
+pub use bk_func::Memory;
+pub use live::live_in;
+pub use next::next_use;

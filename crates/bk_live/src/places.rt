@@ -1,0 +1,32 @@
+// The places of blocks by their numbers.
+ghost use Rattle.std.specs.Prelude.{◌≡◌, IfOk};
+ghost use Rattle.bk_live.specs.Homes.{ArePlaces, place};
+
+use bk_func::Block;
+use std::alloc::{AllocError, Global};
+use std::collections::BTreeMap;
+
+/// For each number of a block its place in the list.
+#[derive(Drop)]
+pub(crate) struct Places {
+    pub(crate) places: BTreeMap<u32, usize>,
+}
+
+impl Places {
+    pub(crate) fn new(alloc: Global, blocks: &[Block]) -> Result<Places, AllocError>
+        ensures { IfOk result (λ places. ArePlaces blocks.now (place places)) }
+    {
+        let mut places = BTreeMap::new(alloc);
+        for (place, block) in blocks.iter().enumerate() {
+            places.insert(block.id, place)?;
+        }
+        Ok(Places { places })
+    }
+
+    /// The place of the block with this number.
+    pub(crate) fn find(&self, number: u32) -> Option<usize>
+        ensures { result ≡ place self.now number }
+    {
+        self.places.get(&number).copied()
+    }
+}
