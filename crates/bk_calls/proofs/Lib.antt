@@ -1,3 +1,5 @@
+pub mod Remaining
+pub mod Borne
 pub mod Counted
 pub mod Found
 pub mod Noted

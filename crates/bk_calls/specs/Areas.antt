@@ -1,13 +1,14 @@
 -- A function after its arguments, results and calls went to words.
 --
 -- The words of a signature are its arguments, then its results, one word each, two for 64 bits on arm.
-use Rattle.std.specs.Prelude.{ℕ, ◌+◌, ◌==◌, Bool, not, ◌&&◌, nat_le, List, [], ◌∷◌, ◌++◌, length, filter, find, flat_map, sum_by, Option, Some, None, option_map, unwrap_or}
+use Rattle.std.specs.Prelude.{◌≡◌, ℕ, ◌+◌, ◌==◌, Bool, not, ◌&&◌, nat_le, List, [], ◌∷◌, ◌++◌, length, filter, find, flat_map, sum_by, Option, Some, None, option_map, unwrap_or}
 use Rattle.bk_ops.specs.declared.types.Target.{Target}
 use Rattle.bk_ops.specs.declared.types.Ty.{Ty}
 use Rattle.bk_func.specs.Records.{ValueRecord, BlockRecord, FuncRecord, SigRecord, PackageRecord}
 use Rattle.bk_func.specs.Edits.{greatest_value}
 use Rattle.bk_func.specs.Words.{count_words}
 use Rattle.bk_func.specs.Form.Signatures.{sig_of}
+use Rattle.bk_calls.specs.declared.role.Role.TheVariants.{Other}
 use Rattle.bk_calls.specs.Chains.{WordPlan, role, is_call, is_results, last, queued, chained, turned}
 
 -- elements, each changed under a number: the first under n, each other under the number after those that the ones before
@@ -71,3 +72,7 @@ plan_of p t f = plan_in p t f.blocks f.sig.args
 -- the function in words; the made values are numbered from the greatest number upwards
 abbrev pub areas_of : PackageRecord → Target → FuncRecord → FuncRecord
 areas_of p t f = record f { blocks = numbered (area_block (plan_of p t f)) made_in (greatest_value f + 1) f.blocks }
+
+-- the value is no argument, call, selection or result of a signature
+abbrev pub IsNoCall : ValueRecord → Type 0
+IsNoCall v = role v ≡ Other

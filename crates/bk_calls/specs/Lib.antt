@@ -2,4 +2,5 @@ pub mod Areas
 pub mod Budget
 pub mod Chains
 pub mod Frame
+pub mod Numbering
 pub mod Plans

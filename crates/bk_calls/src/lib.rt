@@ -14,4 +14,4 @@ mod turn;
 pub use areas::word_areas;
 pub use bk_func::RewriteError;
 pub use frame::{FrameError, frame_of};
-pub use laws::growth_is_counted;
+pub use laws::{growth_is_counted, numbers_of_words, only_words_are_left};

@@ -6,7 +6,7 @@ use bk_ops::Family;
 
 /// What a value is to the calls of its function, and to the call of it.
 #[derive(Clone, Copy, PartialEq, Eq, Debug)]
-pub(crate) enum Role {
+pub enum Role {
     /// An argument of the function.
     Argument,
     /// A call.

@@ -1,13 +1,12 @@
 -- By how much branches are longer before a place.
-use Rattle.std.proofs.Common.{◌≡◌, ◌∙◌, sym, refl, ap, ℕ, zero, suc, ◌+◌, ◌-◌, ◌*◌, ◌<◌, ◌≤◌, ◌^◌, Bool, true, false, if◌then◌else◌, nat_lt, List, [], ◌∷◌, length, take, ◌⊎◌, ⊎_elim, subst, arith}
-use Rattle.std.specs.Prelude.{slice_index, slice_index_or}
-use Rattle.std.specs.List.{sum_by}
+use Rattle.std.proofs.Common.{◌≡◌, ◌∙◌, sym, refl, ℕ, zero, suc, ◌+◌, ◌-◌, ◌*◌, ◌<◌, ◌≤◌, ◌^◌, Bool, true, false, if◌then◌else◌, List, [], ◌∷◌, length, take, ◌⊎◌, ⊎_elim, subst, arith}
+use Rattle.std.specs.Prelude.{slice_index}
 use Rattle.std.proofs.lemmas.Bool.{cases_lt, cases_order}
 use Rattle.std.proofs.lemmas.Bool.Decides.{nat_tests}
 use Rattle.std.proofs.lemmas.List.Sums.{sum_by-cons, sum_by_more}
 use Rattle.bk_fixup.specs.declared.sizes.Branch.{Branch}
 use Rattle.bk_fixup.specs.Sizes.{branch_at, Rise, AreBranches, gained, AreSizes, longest}
-use Rattle.bk_fixup.specs.Rounds.{IsEnd, AreEnds, gain_before, AreGains, AreKnown}
+use Rattle.bk_fixup.specs.Rounds.{IsEnd, gain_before, AreKnown}
 
 gained_none : (bs : List Branch) (ss : List ℕ) (p : ℕ) → ((k : ℕ) → k < length bs → p ≤ (branch_at bs k).at) → gained bs ss p ≡ 0
 unfolding gained

@@ -1,14 +1,13 @@
 -- The rounds that lengthen branches.
-use Rattle.std.proofs.Common.{◌≡◌, ◌∙◌, sym, refl, ap, subst, ℕ, zero, suc, ◌+◌, ◌-◌, ◌*◌, ◌<◌, ◌≤◌, ◌≢◌, Bool, true, false, if◌then◌else◌, List, length, set, get_or, ◌⊎◌, inl, inr, ⊎_elim, arith, get_or-set_same, get_or-set_other, add-zero}
+use Rattle.std.proofs.Common.{◌≡◌, ◌∙◌, sym, refl, ap, subst, ℕ, ◌+◌, ◌*◌, ◌<◌, ◌≤◌, ◌≢◌, Bool, true, false, if◌then◌else◌, List, length, ⊎_elim, arith, get_or-set_same, get_or-set_other}
 use Rattle.std.specs.Prelude.{slice_index, slice_set}
 use Rattle.std.specs.List.{sum, All}
-use Rattle.std.proofs.lemmas.Bool.{cases_lt, cases_Bool, cases_order}
-use Rattle.std.proofs.lemmas.Bool.Decides.{nat_tests}
+use Rattle.std.proofs.lemmas.Bool.{cases_lt}
 use Rattle.std.proofs.lemmas.List.{set-get_or}
 use Rattle.std.proofs.lemmas.List.Elements.{All-from_get_or}
 use Rattle.std.proofs.lemmas.List.Sums.{sum_by-set, sum_by-le}
 use Rattle.bk_fixup.specs.declared.sizes.Branch.{Branch}
-use Rattle.bk_fixup.specs.Sizes.{branch_at, moved, reaches, reaches_at, longest, AreSizes, AllReach, AreLeastSizes}
+use Rattle.bk_fixup.specs.Sizes.{branch_at, moved, reaches_at, AreSizes, AllReach, AreLeastSizes}
 use Rattle.bk_fixup.specs.Rounds.{lack, lack_at, next_size, AreKnown, AreBelow, IsPart}
 use Rattle.bk_fixup.proofs.Gains.{known_from, known_to, at_most_three}
 use Rattle.bk_fixup.proofs.Growing.{least}

@@ -1,8 +1,8 @@
 -- What is known of the branches' sizes between two rounds.
-use Rattle.std.specs.Prelude.{◌≡◌, ℕ, ◌+◌, ◌-◌, ◌*◌, ◌^◌, ◌<◌, ◌≤◌, Bool, true, if◌then◌else◌, List, length, take, slice_index}
+use Rattle.std.specs.Prelude.{◌≡◌, ℕ, ◌+◌, ◌-◌, ◌^◌, ◌<◌, ◌≤◌, Bool, true, if◌then◌else◌, List, length, take, slice_index}
 use Rattle.std.specs.List.{sum, sum_by}
 use Rattle.bk_fixup.specs.declared.sizes.Branch.{Branch}
-use Rattle.bk_fixup.specs.Sizes.{branch_at, Rise, reaches, reaches_at, longest, AreSizes, AreAtMost, AllReach}
+use Rattle.bk_fixup.specs.Sizes.{branch_at, Rise, reaches, reaches_at, AreSizes, AreAtMost, AllReach}
 
 -- the first e branches, and no others, lie before the place
 pub record IsEnd (bs : List Branch) (p e : ℕ) : Type 0 where

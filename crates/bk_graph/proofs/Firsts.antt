@@ -1,5 +1,6 @@
 -- The first places of numbers in a list.
 use Rattle.std.proofs.Common.{◌≡◌, ◌∙◌, sym, refl, ap, ℕ, ◌+◌, ◌<◌, ◌==◌, cond, List, length, get_or, take, Option, Some, None, ⊎_elim, arith, position}
+use mathlib.Core.Path.{fun_ext}
 use Rattle.std.specs.BTreeMap.{get, is_at}
 use Rattle.std.specs.List.{find, slice_get}
 use Rattle.std.specs.Option.{option_or, option_and_then, unwrap_or}
@@ -9,6 +10,7 @@ use Rattle.std.proofs.lemmas.Bool.Decides.{nat_tests}
 use Rattle.bk_func.specs.Records.{BlockRecord}
 use Rattle.bk_graph.specs.declared.places.Places.{Places}
 use Rattle.bk_graph.specs.Named.{AreFirsts, block_ids}
+use Rattle.bk_graph.specs.Nodes.{or_past, place_by, place_in, control_by, control_in}
 use Rattle.bk_graph.proofs.Listed.{position_more, find_position, position-map}
 
 -- a look-up by numbers finds the same number
@@ -38,3 +40,10 @@ firsts_more ns i f g v l before is after n =
 pub block_first : (bs : List BlockRecord) (m : Places) (n : ℕ) → AreFirsts (block_ids bs) m
     → find (λ b. b.id == n) bs ≡ option_and_then (slice_get bs) (get nat_cmp m.places n)
 block_first bs m n h = find_position (λ b. b.id == n) bs ∙ ap (option_and_then (slice_get bs)) (sym (h n ∙ position-map (λ b. b.id) (λ x. x == n) bs))
+
+-- the map of first places gives the places
+pub place_by_first : (ids : List ℕ) (m : Places) → AreFirsts ids m → place_by m ≡ place_in ids
+place_by_first ids m h = fun_ext (λ n. ap or_past (h n))
+
+pub control_by_first : (ids : List ℕ) (m : Places) → AreFirsts ids m → control_by m ≡ control_in ids
+control_by_first ids m h = ap (λ (f : ℕ → Option ℕ). λ control. option_and_then f control) (fun_ext h)

@@ -4,6 +4,7 @@ pub mod Following
 pub mod Laying
 pub mod Listed
 pub mod Putting
+pub mod Ranking
 pub mod Readying
 pub mod Splitting
 pub mod Standing

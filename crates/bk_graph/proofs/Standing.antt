@@ -1,6 +1,6 @@
 -- What stands for a value, step by step; what is picked, place by place.
-use Rattle.std.proofs.Common.{◌≡◌, ◌∙◌, sym, refl, ap, ℕ, suc, ◌+◌, ◌-◌, ◌<◌, ◌≤◌, ◌==◌, Bool, true, false, if◌then◌else◌, List, [], ◌∷◌, ◌++◌, length, map, get_or, take, arith, add-zero, zero-add}
-use Rattle.std.specs.Prelude.{slice_index_or}
+use Rattle.std.proofs.Common.{◌≡◌, ◌∙◌, sym, refl, ap, ℕ, suc, ◌+◌, ◌-◌, ◌<◌, ◌≤◌, ◌==◌, Bool, true, false, if◌then◌else◌, List, [], ◌∷◌, ◌++◌, length, map, get_or, take, arith, add-zero, zero-add, zero}
+use Rattle.std.specs.Prelude.{slice_index_or, slice_set}
 use Rattle.std.proofs.lemmas.Bool.{eq-eqb, ne_eqb}
 use Rattle.std.proofs.lemmas.List.{take_more, map_more, length-take-le}
 use Rattle.bk_graph.specs.Rebuilt.{picked, follow}
@@ -62,3 +62,9 @@ pub mapped_more : {B : Type 0} (h : ℕ → B) (ns : List ℕ) (i : ℕ) (before
 mapped_more {B} h ns i before after y l is value more =
     more ∙ ap (λ (zs : List B). zs ++ y ∷ []) is ∙ ap (λ (z : B). map h (take i ns) ++ z ∷ []) value
     ∙ sym (map_more h ns i 0 l)
+
+-- a write past the end
+pub past_set : {A : Type 0} (xs : List A) (i : ℕ) (x : A) → length xs ≤ i → slice_set xs i x ≡ xs
+past_set [] i x h = refl
+past_set (y ∷ ys) zero x h = absurd (omega (arith, h))
+past_set (y ∷ ys) (suc i) x h = ap (λ zs. y ∷ zs) (past_set ys i x (omega (arith, h)))

@@ -1,9 +1,11 @@
 pub mod Clean
 pub mod Critical
 pub mod Given
+pub mod Graphs
 pub mod Kinds
 pub mod Layout
 pub mod Named
 pub mod Placing
 pub mod Nodes
 pub mod Rebuilt
+pub mod Settling

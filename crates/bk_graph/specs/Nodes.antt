@@ -1,9 +1,11 @@
 -- A function by places: its values in list order, and the places that numbers name.
-use Rattle.std.specs.Prelude.{ℕ, ◌+◌, ◌==◌, List, [], ◌∷◌, ◌++◌, length, map, position, Option, option_and_then}
+use Rattle.std.specs.Prelude.{◌≡◌, ℕ, ◌+◌, ◌<◌, ◌==◌, ◌⊎◌, List, [], ◌∷◌, ◌++◌, length, map, take, position, count_by, Option, None, Some, option_and_then, slice_get, slice_index_or}
 use Rattle.std.specs.Option.{unwrap_or}
 use Rattle.bk_func.specs.Records.{ValueRecord, BlockRecord}
 use Rattle.std.specs.BTreeMap.{get}
 use Rattle.std.specs.Ordering.{nat_cmp}
+use Rattle.bk_func.specs.Edits.{nth_place}
+use Rattle.bk_graph.specs.declared.graph.Edge.{Edge}
 use Rattle.bk_graph.specs.declared.places.Places.{Places}
 
 -- a value with the place of its block
@@ -54,3 +56,35 @@ arg_places place ns = map (λ n. map place n.value.args) ns
 
 abbrev pub control_places : (Option ℕ → Option ℕ) → List BlockRecord → List (Option ℕ)
 control_places place bs = map (λ b. place b.control) bs
+
+-- edges
+
+-- the place of the successor `to` that so many others stand before; 0 where there is no block
+abbrev pub nth_succ : Option BlockRecord → ℕ → ℕ → ℕ
+nth_succ None to rank = 0
+nth_succ (Some b) to rank = nth_place to rank b.succs
+
+-- the edge from a predecessor's place, these predecessors standing before it: the k-th edge between two blocks has the
+-- k-th place among the successors and among the predecessors
+abbrev pub edge_from : List BlockRecord → ℕ → List ℕ → ℕ → Edge
+edge_from bs to before p = record { from = p; index = nth_succ (slice_get bs p) to (count_by (λ q. q == p) before) }
+
+-- the edges to a block from the predecessors, these others standing before them
+unfoldable pub edges_behind : List BlockRecord → ℕ → List ℕ → List ℕ → List Edge
+edges_behind bs to before [] = []
+edges_behind bs to before (p ∷ ps) = edge_from bs to before p ∷ edges_behind bs to (before ++ p ∷ []) ps
+
+abbrev pub edges_of : (ℕ → ℕ) → List BlockRecord → BlockRecord → List Edge
+edges_of place bs b = edges_behind bs b.id [] (map place b.preds)
+
+abbrev pub edge_lists : (ℕ → ℕ) → List BlockRecord → List (List Edge)
+edge_lists place bs = map (edges_of place bs) bs
+
+-- each place has the count of its own occurrences among these
+pub record AreCounts (ranks ps : List ℕ) : Type 0 where
+  pub each : (q : ℕ) → q < length ranks → slice_index_or ranks q 0 ≡ count_by (λ r. r == q) ps
+
+-- each place has the count of its own occurrences among these, or 0 where it is one of the first i
+pub record IsCleared (ranks ps : List ℕ) (i : ℕ) : Type 0 where
+  pub each : (q : ℕ) → q < length ranks
+      → (slice_index_or ranks q 0 ≡ 0) ⊎ ((count_by (λ r. r == q) (take i ps) ≡ 0) × (slice_index_or ranks q 0 ≡ count_by (λ r. r == q) ps))

@@ -1,6 +1,8 @@
 // A function's blocks and values by place, with the edges and arguments between them.
-ghost use Rattle.std.specs.Prelude.{◌≡◌, ◌++◌, [], map, length, slice_index_or, None, IfOk, OnOk};
-ghost use Rattle.bk_graph.specs.Nodes.{node_at, nodes_from, offsets_from, value_ids, place_by, control_by, or_past, succ_places, arg_places, control_places};
+ghost use Rattle.std.specs.Prelude.{◌≡◌, ◌+◌, ◌-◌, ◌^◌, ◌++◌, [], map, min, length, slice_get, slice_index_or, slice_set, None, IfOk, OnOk};
+ghost use Rattle.bk_func.specs.Edits.{nth_place};
+ghost use Rattle.bk_graph.specs.Graphs.{IsGraphOf};
+ghost use Rattle.bk_graph.specs.Nodes.{node_at, nodes_from, offsets_from, value_ids, place_by, control_by, or_past, nth_succ, edges_behind, edge_lists, AreCounts, succ_places, arg_places, control_places};
 
 use crate::lists::{EdgeLists, Lists};
 use crate::places::Places;
@@ -49,7 +51,10 @@ pub(crate) struct Graph<'a> {
 }
 
 impl<'a> Graph<'a> {
-    pub(crate) fn new(alloc: Global, func: &'a Func) -> Result<Graph<'a>, AllocError> {
+    /// The tables of the function.
+    pub(crate) fn new(alloc: Global, func: &'a Func) -> Result<Graph<'a>, AllocError>
+        ensures { IfOk result (IsGraphOf func.now.blocks) }
+    {
         let blocks: &'a [Block] = &func.blocks;
         let mut nodes = Vec::new(alloc);
         let offsets = list_nodes(alloc, &mut nodes, blocks)?;
@@ -220,7 +225,9 @@ fn control_place(places: &Places, control: Option<u32>) -> Option<usize>
     }
 }
 
-fn all_edges(alloc: Global, blocks: &[Block], places: &Places) -> Result<EdgeLists, AllocError> {
+fn all_edges(alloc: Global, blocks: &[Block], places: &Places) -> Result<EdgeLists, AllocError>
+    ensures { IfOk result (λ edges. edges ≡ edge_lists (place_by places.now) blocks.now) }
+{
     let mut edges = EdgeLists::with_capacity(alloc, blocks.len())?;
     let mut ranks = vec![in alloc; 0; blocks.len()]?;
     for block in blocks {
@@ -238,7 +245,13 @@ fn edges_to(
     ranks: &mut [usize],
     to: u32,
     preds: &[usize],
-) -> Result<Vec<Edge>, AllocError> {
+) -> Result<Vec<Edge>, AllocError>
+    requires size { length ranks.old ≡ length blocks.now }
+    requires none { AreCounts ranks.old [] }
+    ensures edges { IfOk result (λ edges. edges.items ≡ edges_behind blocks.now to [] preds.now) }
+    ensures size { length ranks.new ≡ length ranks.old }
+    ensures ranks { OnOk result (AreCounts ranks.new preds.now) }
+{
     let mut edges = Vec::with_capacity(alloc, preds.len())?;
     for from in preds {
         let rank = next_rank(ranks, *from);
@@ -251,7 +264,11 @@ fn edges_to(
 }
 
 /// How many edges were counted from the block before this one.
-fn next_rank(ranks: &mut [usize], from: usize) -> usize {
+#[tactic(auto, using(bk_func::proofs::Places::set_past))]
+fn next_rank(ranks: &mut [usize], from: usize) -> usize
+    ensures rank { result ≡ slice_index_or ranks.old from 0 }
+    ensures ranks { ranks.new ≡ slice_set ranks.old from (min (slice_index_or ranks.old from 0 + 1) (2 ^ 64 - 1)) }
+{
     if ranks.len() <= from {
         return 0;
     }
@@ -260,23 +277,40 @@ fn next_rank(ranks: &mut [usize], from: usize) -> usize {
     rank
 }
 
-fn clear(ranks: &mut [usize], places: &[usize]) {
+/// No edges are counted from these places.
+fn clear(ranks: &mut [usize], places: &[usize])
+    requires { AreCounts ranks.old places.now }
+    ensures size { length ranks.new ≡ length ranks.old }
+    ensures none { AreCounts ranks.new [] }
+{
     for place in places {
-        if *place < ranks.len() {
-            ranks[*place] = 0;
-        }
+        put_zero(ranks, *place);
+    }
+}
+
+#[tactic(auto, using(bk_func::proofs::Places::set_past))]
+fn put_zero(ranks: &mut [usize], place: usize)
+    ensures { ranks.new ≡ slice_set ranks.old place 0 }
+{
+    if place < ranks.len() {
+        ranks[place] = 0;
     }
 }
 
 /// The place of the successor `to` that `rank` others stand before; the length where there is none.
-fn nth_succ(blocks: &[Block], from: usize, to: u32, rank: usize) -> usize {
+fn nth_succ(blocks: &[Block], from: usize, to: u32, rank: usize) -> usize
+    ensures { result ≡ nth_succ (slice_get blocks.now from) to rank }
+{
     match blocks.get(from) {
         Some(block) => nth_place(&block.succs, to, rank),
         None => 0,
     }
 }
 
-fn nth_place(numbers: &[u32], number: u32, rank: usize) -> usize {
+#[tactic(auto, using(bk_func::proofs::Places::place_rules))]
+fn nth_place(numbers: &[u32], number: u32, rank: usize) -> usize
+    ensures { result ≡ nth_place number rank numbers.now }
+{
     let mut left = rank;
     for (place, other) in numbers.iter().enumerate() {
         if *other == number {

@@ -2,9 +2,10 @@
 ghost use Rattle.std.specs.Prelude.{◌≡◌, None, length, map, option_and_then, option_map, slice_get, slice_index_or, slice_set, IfOk};
 ghost use Rattle.bk_graph.specs.Clean.{is_phi, place_taken};
 ghost use Rattle.bk_graph.specs.Kinds.{is_check, is_passed, truth_of};
+ghost use Rattle.bk_graph.specs.Settling.{Keeps, Decides, Leaves, Yields, or_first, first_of, firsts_of};
 ghost use Rattle.bk_graph.specs.Rebuilt.{is_reached, taken_by, goes_to, has_edge, root};
 
-use crate::graph::{Edge, Graph};
+use crate::graph::{Edge, Graph, Node};
 use bk_func::Kind;
 use bk_ops::{ArmOp, Family, RvOp};
 use std::alloc::{AllocError, Global};
@@ -107,9 +108,9 @@ impl<'a> Settled<'a> {
         self.stands.get(place).copied().unwrap_or(place)
     }
 
-    #[tactic(auto, using(bk_func::proofs::Places::set_past))]
+    #[tactic(auto, using(crate::proofs::Standing::past_set))]
     fn yield_to(&mut self, place: usize, other: usize)
-        ensures { self.new.stands.items ≡ slice_set self.old.stands.items place other }
+        ensures { Yields self.old self.new place other }
     {
         if place < self.stands.len() {
             self.stands[place] = other;
@@ -242,10 +243,10 @@ impl<'a> Settled<'a> {
     }
 
     /// The block is not reached, and its edges go.
-    fn leave(&mut self, block: usize) -> Result<(), AllocError> {
-        if block < self.reached.len() {
-            self.reached[block] = false;
-        }
+    fn leave(&mut self, block: usize) -> Result<(), AllocError>
+        ensures { Leaves self.old self.new block }
+    {
+        self.note_left(block);
         let graph = self.graph;
         for (index, succ) in graph.succs_of(block).iter().enumerate() {
             if self.goes(block, index) {
@@ -255,8 +256,19 @@ impl<'a> Settled<'a> {
         Ok(())
     }
 
+    #[tactic(auto, using(crate::proofs::Standing::past_set))]
+    fn note_left(&mut self, block: usize)
+        ensures { Leaves self.old self.new block }
+    {
+        if block < self.reached.len() {
+            self.reached[block] = false;
+        }
+    }
+
     /// Counts off an edge to the block, which is then to be looked at.
-    fn lose_edge(&mut self, block: usize) -> Result<(), AllocError> {
+    fn lose_edge(&mut self, block: usize) -> Result<(), AllocError>
+        ensures { Keeps self.old self.new }
+    {
         if self.counts.len() <= block || self.waits.len() <= block {
             return Ok(());
         }
@@ -321,10 +333,10 @@ impl<'a> Settled<'a> {
     }
 
     /// The block goes to its successor at this place alone: its other edges go.
-    fn decide(&mut self, block: usize, taken: usize) -> Result<(), AllocError> {
-        if block < self.taken.len() {
-            self.taken[block] = Some(taken);
-        }
+    fn decide(&mut self, block: usize, taken: usize) -> Result<(), AllocError>
+        ensures { Decides self.old self.new block taken }
+    {
+        self.note_taken(block, taken);
         let graph = self.graph;
         for (index, succ) in graph.succs_of(block).iter().enumerate() {
             if index != taken {
@@ -334,7 +346,18 @@ impl<'a> Settled<'a> {
         Ok(())
     }
 
-    fn watch(&mut self, place: usize, task: Task) -> Result<(), AllocError> {
+    #[tactic(auto, using(crate::proofs::Standing::past_set))]
+    fn note_taken(&mut self, block: usize, taken: usize)
+        ensures { Decides self.old self.new block taken }
+    {
+        if block < self.taken.len() {
+            self.taken[block] = Some(taken);
+        }
+    }
+
+    fn watch(&mut self, place: usize, task: Task) -> Result<(), AllocError>
+        ensures { Keeps self.old self.new }
+    {
         if place < self.watchers.len() {
             self.watchers[place].push(task)?;
         }
@@ -376,13 +399,30 @@ impl<'a> Settled<'a> {
     }
 
     /// Makes the value at the place yield to another one, and lists what waited for it.
-    fn bypass(&mut self, alloc: Global, place: usize, value: usize) -> Result<(), AllocError> {
+    fn bypass(&mut self, alloc: Global, place: usize, value: usize) -> Result<(), AllocError>
+        ensures { Yields self.old self.new place value }
+    {
         self.yield_to(place, value);
+        let waiting = self.take_waiting(alloc, place);
+        self.list_all(&waiting)
+    }
+
+    /// What waits for the value at the place; it waits no more.
+    fn take_waiting(&mut self, alloc: Global, place: usize) -> Vec<Task>
+        ensures { Keeps self.old self.new }
+    {
         if place < self.watchers.len() {
-            let waiting = std::mem::replace(&mut self.watchers[place], Vec::new(alloc));
-            for task in &waiting {
-                self.tasks.push(*task)?;
-            }
+            std::mem::replace(&mut self.watchers[place], Vec::new(alloc))
+        } else {
+            Vec::new(alloc)
+        }
+    }
+
+    fn list_all(&mut self, tasks: &[Task]) -> Result<(), AllocError>
+        ensures { Keeps self.old self.new }
+    {
+        for task in tasks {
+            self.tasks.push(*task)?;
         }
         Ok(())
     }
@@ -458,21 +498,37 @@ fn is_passed(family: Family) -> bool
 }
 
 /// For each value the place of its first argument, where it is a copy or a nil check, else its own.
-fn firsts(alloc: Global, graph: &Graph) -> Result<Vec<usize>, AllocError> {
+fn firsts(alloc: Global, graph: &Graph) -> Result<Vec<usize>, AllocError>
+    ensures { IfOk result (λ firsts. firsts.items ≡ firsts_of graph.now) }
+{
     let mut firsts = Vec::with_capacity(alloc, graph.nodes.len())?;
     for (place, node) in graph.nodes.iter().enumerate() {
-        let value = node.value;
-        firsts.push(first(graph, place, value.op.family))?;
+        firsts.push(first(graph, place, node))?;
     }
     Ok(firsts)
 }
 
-fn first(graph: &Graph, place: usize, family: Family) -> usize {
-    if !is_passed(family) {
+/// The place of what the value stands for at first.
+fn first(graph: &Graph, place: usize, node: &Node) -> usize
+    ensures { result ≡ first_of graph.now place node.now }
+{
+    let value = node.value;
+    if !is_passed(value.op.family) {
         return place;
     }
-    match graph.args_of(place).first() {
-        Some(arg) if *arg < graph.nodes.len() => *arg,
+    or_first(
+        graph.nodes.len(),
+        place,
+        graph.args_of(place).first().copied(),
+    )
+}
+
+/// The place, or that of the first argument, if it has a value.
+fn or_first(count: usize, place: usize, arg: Option<usize>) -> usize
+    ensures { result ≡ or_first count place arg }
+{
+    match arg {
+        Some(arg) if arg < count => arg,
         _ => place,
     }
 }

@@ -143,6 +143,10 @@ const TAKEN: &[u8] =
 const LEFT: &[u8] =
     b"f func() int\nb1:\nv1 = InitMem <mem>\nv2 = ConstBool <bool> [0]\nv3 = Const64 <int> [5]\nv4 = Copy <bool> v2\nIf v4 -> b2 b3\nb3: <- b1\nv5 = Const64 <int> [7]\nPlain -> b2\nb2: <- b1 b3\nv6 = Phi <int> v3 v5\nv7 = MakeResult <int,mem> v6 v1\nRet v7\n";
 
+// b1 goes to b3 by a constant, so that b2, which leads to itself too, is left, and the phi of b4 decides the branch there.
+const DROPPED: &[u8] =
+    b"f func(c bool) int\nb1:\nv1 = InitMem <mem>\nv2 = ConstBool <bool> [0]\nv3 = ConstBool <bool> [1]\nIf v2 -> b2 b3\nb2: <- b1 b2\nv9 = Arg <bool> {c}\nIf v9 -> b2 b4\nb3: <- b1\nv10 = ConstBool <bool> [0]\nPlain -> b4\nb4: <- b2 b3\nv5 = Phi <bool> v3 v10\nIf v5 -> b5 b6\nb5: <- b4\nv11 = Const64 <int> [7]\nv7 = MakeResult <int,mem> v11 v1\nRet v7\nb6: <- b4\nv12 = Const64 <int> [8]\nv8 = MakeResult <int,mem> v12 v1\nRet v8\n";
+
 /// The phi of b2 is left with the argument of the one block that still leads there.
 #[test]
 fn constants_decide(rt: HostRuntime) -> Result<(), Fail> {
@@ -155,6 +159,13 @@ fn constants_decide(rt: HostRuntime) -> Result<(), Fail> {
             LEFT,
             &[
                 1, 0, 0, 3, 0, 1, 0, 0, 3, 0, 1, 0, 2, 0, 5, 0, 0, 2, 7, 3, 0, 0, 7, 5, 1, 0, 0,
+            ][..],
+        ),
+        (
+            DROPPED,
+            &[
+                1, 0, 0, 3, 0, 1, 0, 0, 3, 0, 1, 0, 4, 0, 0, 4, 0, 3, 0, 6, 0, 0, 6, 8, 4, 0, 0,
+                12, 0, 8, 12, 1, 0, 0,
             ][..],
         ),
     ];

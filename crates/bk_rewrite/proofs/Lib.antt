@@ -6,3 +6,6 @@ pub mod Standing
 pub mod Found
 pub mod Variants
 pub mod Alike
+pub mod Kept
+pub mod Turns
+pub mod Rounds

@@ -1,4 +1,5 @@
 pub mod First
 pub mod Making
+pub mod Passes
 pub mod Places
 pub mod Trials

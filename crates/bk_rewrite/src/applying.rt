@@ -115,6 +115,7 @@ pub(crate) fn apply_at(
     requires { counts.greatest + (value_limit - counts.values) < 2 ^ 32 }
     ensures ok { (v : ValueRecord) → value_at func.old spot.block spot.place ≡ Some v → counts.greatest ≡ greatest_value func.old → OnOk result (func.new ≡ applied (source func.old binds.now target) rule.now.right spot.block spot.place v) }
     ensures within { IfOk result (λ n. n ≤ value_limit - counts.values) }
+    ensures count { counts.greatest ≡ greatest_value func.old → IfOk result (λ n. n ≡ length (inner (source func.old binds.now target) rule.now.right)) }
     ensures fits { counts.greatest ≡ greatest_value func.old → OnOk result (length (inner (source func.old binds.now target) rule.now.right) ≤ value_limit - counts.values) }
     ensures grown { counts.greatest ≡ greatest_value func.old → IfErr result (λ e. e ≡ Stop.Grown → value_limit - counts.values < length (inner (source func.old binds.now target) rule.now.right)) }
     ensures err { OnErr result (func.new ≡ func.old) }

@@ -218,7 +218,7 @@ fn push_value(made: &mut Vec<Value>, value: Value) -> Result<(), AllocError>
     Ok(())
 }
 
-fn push_arg(args: &mut SmallVec<u32, 4>, id: u32) -> Result<(), AllocError>
+pub(crate) fn push_arg(args: &mut SmallVec<u32, 4>, id: u32) -> Result<(), AllocError>
     ensures { OnOk result (args.new.items ≡ args.old.items ++ id ∷ []) }
 {
     args.push(id)?;

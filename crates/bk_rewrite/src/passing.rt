@@ -1,11 +1,15 @@
 // Passes over a function.
-ghost use Rattle.std.specs.Prelude.{◌≡◌, ◌+◌, ◌-◌, ◌<◌, ◌^◌, ◌⊎◌, true, false, IfOk, IfErr};
-ghost use Rattle.bk_rewrite.specs.Places.{value_limit, HasRoom};
+ghost use Rattle.std.specs.Prelude.{◌≡◌, ℕ, ◌+◌, ◌-◌, ◌<◌, ◌^◌, ◌++◌, ◌∷◌, [], ◌⊎◌, Some, true, false, map, slice_get, IfOk, IfErr, OnOk};
+ghost use Rattle.std.specs.List.{flat_map};
+ghost use Rattle.bk_func.specs.Numbers.{value_of};
+ghost use Rattle.bk_func.specs.Records.{ValueRecord, FuncRecord};
+ghost use Rattle.bk_rewrite.specs.Places.{value_limit, value_at, with_block, HasNumbers, HasRoom};
+ghost use Rattle.bk_rewrite.specs.Passes.{first_or, copied, copied_in, with_args, with_value, with_looked_through, Stands, Tries, Exceeds, Visits, Stops, VisitsEach, StopsAmong, IsPass, PassExceeds, Settles, Changes, Outgrows, IsCounted};
 
 use crate::applying::{Counts, apply_at, counted};
 use crate::finding::{Site, find};
 use crate::index::{Index, Spot, value_at};
-use crate::making::{Stop, refusal};
+use crate::making::{Stop, push_arg, refusal};
 use crate::same::same_func;
 use bk_func::{Block, Func, RewriteError, Value, copy_func};
 use bk_ops::{Family, Target};
@@ -26,6 +30,8 @@ pub fn pass(
     target: Target,
 ) -> Result<bool, RewriteError>
     requires { HasRoom func.old }
+    ensures passed { HasNumbers func.old → OnOk result (IsPass target rules.now func.old func.new) }
+    ensures grown { HasNumbers func.old → IfErr result (λ e. e ≡ RewriteError.Grown 32769 → PassExceeds target rules.now func.old) }
     ensures changed { IfOk result (λ changed. changed ≡ true → func.new ≡ func.old → ⊥) }
     ensures unchanged { IfOk result (λ changed. changed ≡ false → func.new ≡ func.old) }
     ensures refused { IfErr result (λ e. (e ≡ RewriteError.Memory) ⊎ (e ≡ RewriteError.Grown 32769)) }
@@ -48,12 +54,15 @@ pub fn rewrite(
     target: Target,
 ) -> Result<Func, RewriteError>
     requires { HasRoom func }
-    ensures { IfErr result (λ e. (e ≡ RewriteError.Memory) ⊎ ((e ≡ RewriteError.Grown 32769) ⊎ (e ≡ RewriteError.Passes (64 + func.given)))) }
+    ensures settled { HasNumbers func → IfOk result (λ g. Settles target rules.now (64 + func.given) func g) }
+    ensures passes { HasNumbers func → IfErr result (λ e. e ≡ RewriteError.Passes (64 + func.given) → (g : FuncRecord) × Changes target rules.now (64 + func.given) func g) }
+    ensures grown { HasNumbers func → IfErr result (λ e. e ≡ RewriteError.Grown 32769 → Outgrows target rules.now (64 + func.given) func) }
+    ensures refused { IfErr result (λ e. (e ≡ RewriteError.Memory) ⊎ ((e ≡ RewriteError.Grown 32769) ⊎ (e ≡ RewriteError.Passes (64 + func.given)))) }
 {
     let mut func = func;
     let mut counts = counted(&func);
     let limit = 64 + func.given as u64;
-    'passes: for _ in 0..limit {
+    for _pass in 0..limit {
         match try_pass(alloc, &mut func, rules, target, counts) {
             Ok(passed) => {
                 if !passed.changed {
@@ -83,6 +92,9 @@ fn try_pass(
 ) -> Result<Passed, Stop>
     requires { counts.greatest + (value_limit - counts.values) < 2 ^ 32 }
     ensures room { IfOk result (λ passed. passed.counts.greatest + (value_limit - passed.counts.values) < 2 ^ 32) }
+    ensures counted { IsCounted counts.greatest (value_limit - counts.values) func.old → IfOk result (λ passed. IsCounted passed.counts.greatest (value_limit - passed.counts.values) func.new) }
+    ensures passed { IsCounted counts.greatest (value_limit - counts.values) func.old → OnOk result (IsPass target rules.now func.old func.new) }
+    ensures exceeds { IsCounted counts.greatest (value_limit - counts.values) func.old → IfErr result (λ e. e ≡ Stop.Grown → PassExceeds target rules.now func.old) }
     ensures changed { IfOk result (λ passed. passed.changed ≡ true → func.new ≡ func.old → ⊥) }
     ensures unchanged { IfOk result (λ passed. passed.changed ≡ false → func.new ≡ func.old) }
 {
@@ -94,7 +106,8 @@ fn try_pass(
 }
 
 fn copy(alloc: Global, func: &Func) -> Result<Func, Stop>
-    ensures { IfOk result (λ copy. copy ≡ func.now) }
+    ensures copy { IfOk result (λ copy. copy ≡ func.now) }
+    ensures memory { IfErr result (λ e. e ≡ Stop.Memory) }
 {
     match copy_func(alloc, func) {
         Ok(copy) => Ok(copy),
@@ -102,7 +115,10 @@ fn copy(alloc: Global, func: &Func) -> Result<Func, Stop>
     }
 }
 
-fn value_ids(alloc: Global, blocks: &[Block]) -> Result<Vec<u32>, AllocError> {
+#[tactic(auto, using(crate::proofs::Turns::ids_on, crate::proofs::Turns::ids_end))]
+fn value_ids(alloc: Global, blocks: &[Block]) -> Result<Vec<u32>, AllocError>
+    ensures { IfOk result (λ ids. ids.items ≡ map (λ v. v.id) (flat_map (λ b. b.values) blocks.now)) }
+{
     let mut ids = Vec::new(alloc);
     for block in blocks {
         push_ids(&mut ids, &block.values)?;
@@ -110,10 +126,20 @@ fn value_ids(alloc: Global, blocks: &[Block]) -> Result<Vec<u32>, AllocError> {
     Ok(ids)
 }
 
-fn push_ids(ids: &mut Vec<u32>, values: &[Value]) -> Result<(), AllocError> {
+#[tactic(auto, using(crate::proofs::Turns::mapped_on, crate::proofs::Turns::mapped_end))]
+fn push_ids(ids: &mut Vec<u32>, values: &[Value]) -> Result<(), AllocError>
+    ensures { OnOk result (ids.new.items ≡ ids.old.items ++ map (λ v. v.id) values.now) }
+{
     for value in values {
-        ids.push(value.id)?;
+        push_id(ids, value)?;
     }
+    Ok(())
+}
+
+fn push_id(ids: &mut Vec<u32>, value: &Value) -> Result<(), AllocError>
+    ensures { OnOk result (ids.new.items ≡ ids.old.items ++ value.now.id ∷ []) }
+{
+    ids.push(value.id)?;
     Ok(())
 }
 
@@ -126,7 +152,10 @@ fn visit_all(
     counts: Counts,
 ) -> Result<Counts, Stop>
     requires { counts.greatest + (value_limit - counts.values) < 2 ^ 32 }
-    ensures { IfOk result (λ now. now.greatest + (value_limit - now.values) < 2 ^ 32) }
+    ensures room { IfOk result (λ now. now.greatest + (value_limit - now.values) < 2 ^ 32) }
+    ensures counted { IsCounted counts.greatest (value_limit - counts.values) func.old → IfOk result (λ now. IsCounted now.greatest (value_limit - now.values) func.new) }
+    ensures visits { IsCounted counts.greatest (value_limit - counts.values) func.old → OnOk result (VisitsEach target rules.now ids.now func.old func.new) }
+    ensures stops { IsCounted counts.greatest (value_limit - counts.values) func.old → IfErr result (λ e. e ≡ Stop.Grown → StopsAmong target rules.now ids.now func.old) }
 {
     let mut index = Index::new(alloc, func)?;
     let mut counts = counts;
@@ -147,12 +176,36 @@ fn visit(
     counts: Counts,
 ) -> Result<Counts, Stop>
     requires { counts.greatest + (value_limit - counts.values) < 2 ^ 32 }
-    ensures { IfOk result (λ now. now.greatest + (value_limit - now.values) < 2 ^ 32) }
+    ensures room { IfOk result (λ now. now.greatest + (value_limit - now.values) < 2 ^ 32) }
+    ensures counted { IsCounted counts.greatest (value_limit - counts.values) func.old → IfOk result (λ now. IsCounted now.greatest (value_limit - now.values) func.new) }
+    ensures visits { IsCounted counts.greatest (value_limit - counts.values) func.old → OnOk result (Visits target rules.now func.old id func.new) }
+    ensures stops { IsCounted counts.greatest (value_limit - counts.values) func.old → IfErr result (λ e. e ≡ Stop.Grown → Stops target rules.now func.old id) }
 {
     let Some(spot) = index.spot(func, id) else {
         return Ok(counts);
     };
-    bypass_copies(alloc, func, index, spot)?;
+    look_through(alloc, func, index, spot)?;
+    try_rules(alloc, func, index, rules, id, spot, target, counts)
+}
+
+/// Applies the first rule that matches at the value there, which has this number.
+#[allow(clippy::too_many_arguments)]
+fn try_rules(
+    alloc: Global,
+    func: &mut Func,
+    index: &mut Index,
+    rules: &[Rule],
+    id: u32,
+    spot: Spot,
+    target: Target,
+    counts: Counts,
+) -> Result<Counts, Stop>
+    requires { counts.greatest + (value_limit - counts.values) < 2 ^ 32 }
+    ensures room { IfOk result (λ now. now.greatest + (value_limit - now.values) < 2 ^ 32) }
+    ensures counted { (v : ValueRecord) → Stands func.old id spot.block spot.place v → IsCounted counts.greatest (value_limit - counts.values) func.old → IfOk result (λ now. IsCounted now.greatest (value_limit - now.values) func.new) }
+    ensures tries { (v : ValueRecord) → Stands func.old id spot.block spot.place v → IsCounted counts.greatest (value_limit - counts.values) func.old → OnOk result (Tries target rules.now func.old id spot.block spot.place v func.new) }
+    ensures exceeds { IsCounted counts.greatest (value_limit - counts.values) func.old → IfErr result (λ e. e ≡ Stop.Grown → Exceeds target rules.now func.old id) }
+{
     let site = Site {
         func,
         index,
@@ -162,9 +215,7 @@ fn visit(
     let Some(found) = find(alloc, &site, rules)? else {
         return Ok(counts);
     };
-    let Some(rule) = rules.get(found.place) else {
-        return Ok(counts);
-    };
+    let rule = &rules[found.place];
     let made = apply_at(alloc, func, rule, spot, &found.binds, target, counts)?;
     note_made(func, index, spot.block, made)?;
     Ok(Counts {
@@ -186,45 +237,76 @@ fn note_made(func: &Func, index: &mut Index, block: usize, made: usize) -> Resul
 }
 
 /// Replaces each argument of the value there that is a Copy by what the Copy copies.
-fn bypass_copies(
-    alloc: Global,
-    func: &mut Func,
-    index: &Index,
-    spot: Spot,
-) -> Result<(), AllocError> {
-    let args = bypassed(alloc, func, index, spot)?;
+fn look_through(alloc: Global, func: &mut Func, index: &Index, spot: Spot) -> Result<(), AllocError>
+    ensures { (v : ValueRecord) → HasNumbers func.old → value_at func.old spot.block spot.place ≡ Some v → OnOk result (func.new ≡ with_looked_through func.old spot.block spot.place v) }
+{
+    let args = copied_args(alloc, func, index, spot)?;
     put_args(func, spot, args);
     Ok(())
 }
 
-fn bypassed(
+fn copied_args(
     alloc: Global,
     func: &Func,
     index: &Index,
     spot: Spot,
-) -> Result<SmallVec<u32, 4>, AllocError> {
+) -> Result<SmallVec<u32, 4>, AllocError>
+    ensures { (v : ValueRecord) → HasNumbers func.now → value_at func.now spot.block spot.place ≡ Some v → IfOk result (λ args. args.items ≡ map (copied_in func.now) v.args) }
+{
+    match value_at(func, spot) {
+        Some(value) => copied_each(alloc, func, index, value.args.as_slice()),
+        None => Ok(SmallVec::new(alloc)),
+    }
+}
+
+#[tactic(auto, using(crate::proofs::Turns::mapped_on, crate::proofs::Turns::mapped_end))]
+fn copied_each(
+    alloc: Global,
+    func: &Func,
+    index: &Index,
+    ids: &[u32],
+) -> Result<SmallVec<u32, 4>, AllocError>
+    ensures { HasNumbers func.now → IfOk result (λ args. args.items ≡ map (copied_in func.now) ids.now) }
+{
     let mut args = SmallVec::new(alloc);
-    if let Some(value) = value_at(func, spot) {
-        for arg in value.args.as_slice() {
-            args.push(source(func, index, *arg))?;
-        }
+    for id in ids {
+        push_arg(&mut args, copied(func, index, *id))?;
     }
     Ok(args)
 }
 
 /// What the number stands for, one Copy being looked through.
-fn source(func: &Func, index: &Index, id: u32) -> u32 {
+fn copied(func: &Func, index: &Index, id: u32) -> u32
+    ensures { HasNumbers func.now → result ≡ copied_in func.now id }
+{
     match index.find(func, id) {
-        Some(value) if value.op.family == Family::Copy => first_or(value, id),
+        Some(value) => copied_by(value, id),
+        None => id,
+    }
+}
+
+/// What the value copies, or else the number.
+fn copied_by(value: &Value, id: u32) -> u32
+    ensures { result ≡ copied (Some value.now) id }
+{
+    match value.op.family {
+        Family::Copy => first_or(value.args.as_slice(), id),
         _ => id,
     }
 }
 
-fn first_or(value: &Value, other: u32) -> u32 {
-    value.args.as_slice().first().copied().unwrap_or(other)
+fn first_or(ids: &[u32], other: u32) -> u32
+    ensures { result ≡ first_or ids.now other }
+{
+    match ids {
+        [first, ..] => *first,
+        [] => other,
+    }
 }
 
-fn put_args(func: &mut Func, spot: Spot, args: SmallVec<u32, 4>) {
+fn put_args(func: &mut Func, spot: Spot, args: SmallVec<u32, 4>)
+    ensures { (v : ValueRecord) → value_at func.old spot.block spot.place ≡ Some v → func.new ≡ with_block func.old spot.block (with_value spot.place (with_args v args.items)) }
+{
     if spot.block >= func.blocks.len() {
         return;
     }
@@ -232,8 +314,26 @@ fn put_args(func: &mut Func, spot: Spot, args: SmallVec<u32, 4>) {
     put_args_in(block, spot.place, args);
 }
 
-fn put_args_in(block: &mut Block, place: usize, args: SmallVec<u32, 4>) {
+#[tactic(auto, using(crate::proofs::Turns::set_with))]
+fn put_args_in(block: &mut Block, place: usize, args: SmallVec<u32, 4>)
+    ensures { (v : ValueRecord) → slice_get block.old.values place ≡ Some v → block.new ≡ with_value place (with_args v args.items) block.old }
+{
     if place < block.values.len() {
-        block.values[place].args = args;
+        let value = with_args(&block.values[place], args);
+        block.values[place] = value;
+    }
+}
+
+/// The value with these arguments.
+fn with_args(value: &Value, args: SmallVec<u32, 4>) -> Value
+    ensures { result ≡ with_args value.now args.items }
+{
+    Value {
+        id: value.id,
+        op: value.op,
+        ty: value.ty,
+        args,
+        int: value.int,
+        aux: value.aux,
     }
 }

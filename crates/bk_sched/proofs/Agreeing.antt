@@ -30,7 +30,7 @@ use Rattle.bk_sched.proofs.Lists.{contains_at, to_in, to_contains, in_either}
 use Rattle.bk_sched.proofs.Naming.{phi_names}
 
 -- a value bears the number, or none does
-borne : (vs : List ValueRecord) (n : ℕ) → ((v : ValueRecord) × In v vs × (v.id ≡ n)) ⊎ ((v : ValueRecord) → In v vs → ¬ (v.id ≡ n))
+pub borne : (vs : List ValueRecord) (n : ℕ) → ((v : ValueRecord) × In v vs × (v.id ≡ n)) ⊎ ((v : ValueRecord) → In v vs → ¬ (v.id ≡ n))
 borne [] n = inr (λ v i. elim i [ ])
 borne (x ∷ xs) n = ⊎_elim
     (λ (e : x.id ≡ n). inl (x, inl refl, e))
@@ -124,7 +124,7 @@ abbrev pub NoCopies : FuncRecord → Type 0
 NoCopies f = (c : BlockRecord) (v : ValueRecord) → HasValue f c v → ¬ CopiesMemory v
 
 -- then numbers stand for themselves
-stands_same : (f : FuncRecord) → NoCopies f → (b : BlockRecord) → HasBlock f b → (n s : ℕ) → StandsFor b n s → n ≡ s
+pub stands_same : (f : FuncRecord) → NoCopies f → (b : BlockRecord) → HasBlock f b → (n s : ℕ) → StandsFor b n s → n ≡ s
 stands_same f none b has _ _ (outside n free) = refl
 stands_same f none b has _ _ (itself v inside other) = refl
 stands_same f none b has _ _ (copied v n m inside is first rest) = absurd (none b v (has, inside) is)
@@ -196,7 +196,7 @@ joins false false c d (inr e) x y = absurd (false≢true e)
 joins a b true d h x y = absurd (false≢true (sym x))
 joins a b c true h x y = absurd (false≢true (sym y))
 
-state_form : (s : Setting) (f : FuncRecord) → IsFormed s f → (b : BlockRecord) → HasBlock f b → (v : ValueRecord) → Contains b.values v → is_state v ≡ true → IsState f b v
+pub state_form : (s : Setting) (f : FuncRecord) → IsFormed s f → (b : BlockRecord) → HasBlock f b → (v : ValueRecord) → Contains b.values v → is_state v ≡ true → IsState f b v
 state_form s f formed b has v inside e =
     let (gives, c, d) = parts (is_call v.op.family) (is_mem v.ty) (is_copy v.op.family) (are_results v.op.family) e in (
       (has, inside),

@@ -1,8 +1,8 @@
 -- What a schedule keeps: the order, each value, and itself.
-use Rattle.std.proofs.Common.{◌≡◌, ◌∙◌, sym, refl, ap, subst, ℕ, ◌+◌, ◌==◌, ◌⊎◌, inl, inr, ⊎_elim, List, [], ◌∷◌, ◌++◌, map, cond, arith}
+use Rattle.std.proofs.Common.{◌≡◌, ◌∙◌, sym, refl, ap, subst, ℕ, ◌+◌, ◌==◌, ◌⊎◌, inl, inr, ⊎_elim, List, [], ◌∷◌, ◌++◌, map, cond, arith, length, ◌≤◌}
 use Rattle.std.specs.Prelude.{count_by, sum_by}
 use Rattle.std.specs.List.{Contains}
-use Rattle.std.proofs.lemmas.List.{map-append}
+use Rattle.std.proofs.lemmas.List.{length-append, map-append}
 use Rattle.std.proofs.lemmas.List.Sums.{sum_by-append, sum_by-cons}
 use Rattle.bk_func.proofs.Faults.{In}
 use Rattle.bk_func.specs.Records.{ValueRecord, BlockRecord}
@@ -56,7 +56,29 @@ some_ready b x (y ∷ ys) alone never = some_ready b y ys (λ v i. alone v (inr 
     (λ (k : In u (y ∷ ys)). least u k before)
     j))
 
--- so each value is done as often as it is listed
+-- so each value is done
+pub all_scheduled : (b : BlockRecord) (xs zs : List ValueRecord) → Scheduled b xs zs → ((v : ValueRecord) → In v xs → ¬ Precedes b v v) → (v : ValueRecord) → In v xs → In v zs
+all_scheduled b _ _ (done [] none) alone v i = i
+all_scheduled b _ _ (done (x ∷ xs) none) alone v i =
+    absurd (some_ready b x xs alone (λ m j ready. none m (to_contains m (x ∷ xs) j) (λ u c. ready u (to_in u (x ∷ xs) c))))
+all_scheduled b _ _ (next xs ys zs w ready front back g) alone v i =
+    ⊎_elim
+    (λ (j : In v xs). inr (all_scheduled b (xs ++ ys) zs g (λ u k. alone u (with_mid u w xs ys k)) v (in_left v xs ys j)))
+    (λ (j : In v (w ∷ ys)). ⊎_elim
+    (λ (e : w ≡ v). inl e)
+    (λ (k : In v ys). inr (all_scheduled b (xs ++ ys) zs g (λ u l. alone u (with_mid u w xs ys l)) v (in_right v xs ys k)))
+    j)
+    (in_either v xs (w ∷ ys) i)
+
+pub short : (b : BlockRecord) (xs zs : List ValueRecord) → Scheduled b xs zs → length zs ≤ length xs
+short b _ _ (done xs none) = omega arith
+short b _ _ (next xs ys zs w ready front back g) =
+    let a = short b (xs ++ ys) zs g in
+    let c = length-append xs (w ∷ ys) in
+    let d = length-append xs ys in
+    omega (arith, a, c, d)
+
+-- and as often as it is listed
 abbrev pub count_ids : ℕ → List ValueRecord → ℕ
 count_ids n vs = count_by (λ m. m == n) (map (λ v. v.id) vs)
 

@@ -2,6 +2,7 @@ pub mod Adding
 pub mod Agreeing
 pub mod Arranging
 pub mod Clearing
+pub mod Ending
 pub mod Firsts
 pub mod Grouping
 pub mod Keeping
@@ -13,6 +14,7 @@ pub mod Naming
 pub mod Needing
 pub mod Placing
 pub mod Reaching
+pub mod Running
 pub mod Scheduling
 pub mod Sowing
 pub mod Turning

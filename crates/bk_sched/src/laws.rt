@@ -1,7 +1,11 @@
 // Laws of the order. The functions do nothing: what they say is in their clauses.
-ghost use Rattle.std.specs.Prelude.{◌≡◌, ◌↔◌, ◌==◌, List, ◌∷◌, ◌++◌, ℕ, count_by, map};
+ghost use Rattle.std.specs.Prelude.{◌≡◌, ◌↔◌, ◌⊎◌, ◌&&◌, ◌||◌, ◌==◌, Some, filter, List, ◌∷◌, ◌++◌, ℕ, count_by, map};
 ghost use Rattle.std.specs.List.{Contains};
 ghost use Rattle.bk_func.specs.Records.{BlockRecord, FuncRecord, ValueRecord};
+ghost use Rattle.bk_ops.specs.declared.types.Target.{Target};
+ghost use Rattle.bk_func.specs.Effects.{is_at, is_check, is_load, order};
+ghost use Rattle.bk_func.specs.Meaning.{first_fault, wild};
+ghost use Rattle.bk_func.specs.Numbers.{origin_of, state_of};
 ghost use Rattle.bk_func.specs.Form.{IsFormed};
 ghost use Rattle.bk_func.specs.Form.Before.{Precedes as OrderOfForm};
 ghost use Rattle.bk_func.specs.Form.Signatures.{Setting};
@@ -31,6 +35,12 @@ pub fn puts_phis_first()
 pub fn agrees_with_the_form()
     ensures order { (s : Setting) (f : FuncRecord) (b : BlockRecord) (u v : ValueRecord) → IsFormed s f → ((c : BlockRecord) (w : ValueRecord) → HasValue f c w → ¬ CopiesMemory w) → HasBlock f b → Precedes b u v ↔ OrderOfForm f b u v }
     ensures once { (s : Setting) (f : FuncRecord) (b : BlockRecord) (ids : List ℕ) (n : ℕ) → IsFormed s f → ((c : BlockRecord) (w : ValueRecord) → HasValue f c w → ¬ CopiesMemory w) → HasBlock f b → IsSchedule b ids → count_by (λ m. m == n) ids ≡ count_by (λ m. m == n) (map (λ v. v.id) b.values) }
+{}
+
+/// In a function in form in which no value copies memory, the nil checks and loads of a state of a block end the run in the
+/// order of its schedule as the meaning says, unless that is at an access outside the window.
+pub fn faults_as_the_meaning()
+    ensures { (s : Setting) (f : FuncRecord) (b : BlockRecord) (zs : List ValueRecord) (n : ℕ) (t : Target) (m : ℕ → ℕ) (window : List ℕ) → IsFormed s f → ((c : BlockRecord) (w : ValueRecord) → HasValue f c w → ¬ CopiesMemory w) → HasBlock f b → Scheduled b b.values zs → ((a : ℕ) × (first_fault t m window (order f b n) ≡ Some (wild a))) ⊎ (first_fault t m window (order f b n) ≡ first_fault t m window (filter (λ v. (is_check (origin_of v.op.family) || is_load (origin_of v.op.family)) && is_at (state_of f v) n) zs)) }
 {}
 
 /// In a block of a function in form each value has a number of its own.

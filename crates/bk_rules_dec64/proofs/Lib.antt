@@ -1,0 +1,12 @@
+pub mod Counts
+pub mod Extended
+pub mod Halves
+pub mod Orders
+pub mod HalfShifts
+pub mod Signed
+pub mod SoundArithmetic
+pub mod SoundComparisons
+pub mod SoundConversions
+pub mod SoundShifts
+pub mod Unsound
+pub mod WholeList

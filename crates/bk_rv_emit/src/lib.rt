@@ -1,0 +1,13 @@
+//! The code of placed functions for riscv64.
+#![tactic(auto)]
+
+mod blocks;
+mod layout;
+mod lines;
+mod pieces;
+mod table;
+mod units;
+mod written;
+
+pub use bk_fixup::{Handle, Memory, Patch, Piece};
+pub use pieces::emit;
