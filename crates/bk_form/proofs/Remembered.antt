@@ -8,7 +8,8 @@ use Rattle.std.specs.Slice.{IsItemAt}
 use Rattle.std.proofs.lemmas.Bool.{cases_lt, false≢true}
 use Rattle.std.proofs.lemmas.List.{get_or_past}
 use Rattle.std.proofs.lemmas.Option.{none-some, same_Some, slice_get_within}
-use Rattle.bk_ops.specs.declared.family.Family.TheVariants.{InitMem, MakeResult, ResWord, SelectN}
+use Rattle.bk_ops.specs.Families.{is_call_result}
+use Rattle.bk_ops.specs.declared.family.Family.TheVariants.{InitMem, MakeResult}
 use Rattle.bk_ops.specs.declared.types.Ty.TheVariants.{Mem, Tuple}
 use Rattle.bk_func.specs.Records.{ValueRecord, BlockRecord, FuncRecord}
 use Rattle.bk_func.specs.Form.Text.{Defines, HasBlock, HasValue, IsEntry, IsFirstIn, IsPhi}
@@ -392,21 +393,25 @@ names_first f values hs homes at place b v eb (m, em, says) away free o state =
 
 -- whether a value must name a state
 pub right_apart : (f : FuncRecord) (b : BlockRecord) (v : ValueRecord)
-    → IsPhi v ⊎ (v.op.family ≡ MakeResult) ⊎ (v.op.family ≡ SelectN) ⊎ (v.op.family ≡ ResWord) → NamesRight f b v
-right_apart f b v apart k a c d e reached at within = absurd (⊎_elim a (λ r. ⊎_elim c (λ s. ⊎_elim d e s) r) apart)
+    → IsPhi v ⊎ (v.op.family ≡ MakeResult) ⊎ (is_call_result v.op.family ≡ true) → NamesRight f b v
+right_apart f b v apart k a c d reached at within = absurd (⊎_elim a (λ r. ⊎_elim c (λ s. false≢true (sym d ∙ s)) r) apart)
 
 pub right_unreached : (f : FuncRecord) (b : BlockRecord) (v : ValueRecord) → ¬ IsReached f b → NamesRight f b v
-right_unreached f b v none k a c d e reached at within = absurd (none reached)
+right_unreached f b v none k a c d reached at within = absurd (none reached)
 
 pub right_nothing : (f : FuncRecord) (b : BlockRecord) (v : ValueRecord) → ((n : ℕ) → ¬ NamesBy v n) → NamesRight f b v
-right_nothing f b v none k a c d e reached at within = let (n, g) = at_some v.args k within in absurd (none n (k, at, g))
+right_nothing f b v none k a c d reached at within = let (n, g) = at_some v.args k within in absurd (none n (k, at, g))
 
 pub right_named : (f : FuncRecord) (b : BlockRecord) (v : ValueRecord) (n : ℕ) → IsReached f b
-    → ¬ (IsPhi v ⊎ (v.op.family ≡ MakeResult) ⊎ (v.op.family ≡ SelectN) ⊎ (v.op.family ≡ ResWord)) → NamesBy v n → NamesWithin f b v ↔ NamesRight f b v
+    → ¬ (IsPhi v ⊎ (v.op.family ≡ MakeResult) ⊎ (is_call_result v.op.family ≡ true)) → NamesBy v n → NamesWithin f b v ↔ NamesRight f b v
 right_named f b v n reached other (k, at, g) = (
-  λ within j a c d e r l m. within,
-  λ right. right k (λ h. other (inl h)) (λ h. other (inr (inl h))) (λ h. other (inr (inr (inl h)))) (λ h. other (inr (inr (inr h)))) reached at (slice_get_within v.args k n g),
+  λ within j a c d r l m. within,
+  λ right. right k (λ h. other (inl h)) (λ h. other (inr (inl h))) (not_so (is_call_result v.op.family) (λ h. other (inr (inr h)))) reached at (slice_get_within v.args k n g),
 )
+  where
+    not_so : (t : Bool) → ¬ (t ≡ true) → t ≡ false
+    not_so true no' = absurd (no' refl)
+    not_so false no' = refl
 
 -- the places of controls
 pub controls_all : (f : FuncRecord) (ks : List (Option ℕ)) (i : ℕ) → i ≡ length f.blocks

@@ -4,6 +4,7 @@ ghost use Rattle.std.specs.List.{Contains};
 ghost use Rattle.bk_ops.specs.declared.family.Family.TheVariants.{InitMem};
 ghost use Rattle.bk_func.specs.Records.{BlockRecord, ValueRecord};
 ghost use Rattle.bk_func.specs.Form.Text.{HasValue, IsFirstIn};
+ghost use Rattle.bk_func.specs.Form.States.{CopiesMemory};
 ghost use Rattle.bk_ops.specs.Table.{info_of};
 ghost use Rattle.bk_form.specs.Chains.{AreHomes, AreNamed};
 ghost use Rattle.bk_form.specs.Naming.{GivesMemory, GivesState, IsFirstOf, NamesBy, NamesFirst, NamesIf};
@@ -13,7 +14,7 @@ ghost use Rattle.bk_form.specs.Walks.{IsFlow};
 use crate::flow::Flow;
 use crate::places::Node;
 use bk_func::{Block, Func, Value};
-use bk_ops::{Family, Ty, op_info};
+use bk_ops::{Family, Ty, is_call_result, op_info};
 use std::alloc::{AllocError, Global};
 
 /// The place of the state that a value of the function names.
@@ -101,9 +102,15 @@ pub(crate) fn memory_argument(value: &Value) -> Option<u32>
 fn names_first(value: &Value) -> bool
     ensures { IsTrue result ↔ NamesFirst value.now }
 {
+    copies_memory(value) || is_call_result(value.op.family)
+}
+
+/// Whether the value copies memory.
+fn copies_memory(value: &Value) -> bool
+    ensures { IsTrue result ↔ CopiesMemory value.now }
+{
     match value.op.family {
         Family::Copy => value.ty == Ty::Mem,
-        Family::SelectN | Family::ResWord => true,
         _ => false,
     }
 }
