@@ -55,20 +55,20 @@ pub argument_range : (s : Setting) (f : FuncRecord) (v : ValueRecord) (o : Famil
 unfolding InRange
 argument_range s f v o e = rw e ((λ h. h), (λ h. h))
 
-pub no_range : (s : Setting) (f : FuncRecord) (v : ValueRecord) (o : Family) → (o ≡ op.Const → ⊥) → (o ≡ op.ConstBool → ⊥) → (o ≡ op.Trap → ⊥) → (o ≡ op.SelectN → ⊥)
-    → (o ≡ op.ArgWord → ⊥) → (o ≡ op.RetWord → ⊥) → (o ≡ op.ResWord → ⊥) → (o ≡ op.OutWord → ⊥) → (o ≡ op.ArgReg → ⊥) → (o ≡ op.ResReg → ⊥) → IsSigned 64 v.int → InRange s f v o
+pub other_number : (s : Setting) (f : FuncRecord) (v : ValueRecord) (o : Family) → (o ≡ op.Const → ⊥) → (o ≡ op.ConstBool → ⊥) → (o ≡ op.Trap → ⊥) → (o ≡ op.SelectN → ⊥)
+    → (o ≡ op.ArgWord → ⊥) → (o ≡ op.RetWord → ⊥) → (o ≡ op.ResWord → ⊥) → (o ≡ op.OutWord → ⊥) → (o ≡ op.ArgReg → ⊥) → (o ≡ op.ResReg → ⊥) → IsSigned 64 v.int ↔ InRange s f v o
 unfolding InRange
-no_range s f v op.Const a b c d e g h i j k fits = absurd (a refl)
-no_range s f v op.ConstBool a b c d e g h i j k fits = absurd (b refl)
-no_range s f v op.Trap a b c d e g h i j k fits = absurd (c refl)
-no_range s f v op.SelectN a b c d e g h i j k fits = absurd (d refl)
-no_range s f v op.ArgWord a b c d e g h i j k fits = absurd (e refl)
-no_range s f v op.RetWord a b c d e g h i j k fits = absurd (g refl)
-no_range s f v op.ResWord a b c d e g h i j k fits = absurd (h refl)
-no_range s f v op.OutWord a b c d e g h i j k fits = absurd (i refl)
-no_range s f v op.ArgReg a b c d e g h i j k fits = absurd (j refl)
-no_range s f v op.ResReg a b c d e g h i j k fits = absurd (k refl)
-no_range s f v _ a b c d e g h i j k fits = fits
+other_number s f v op.Const a b c d e g h i j k = absurd (a refl)
+other_number s f v op.ConstBool a b c d e g h i j k = absurd (b refl)
+other_number s f v op.Trap a b c d e g h i j k = absurd (c refl)
+other_number s f v op.SelectN a b c d e g h i j k = absurd (d refl)
+other_number s f v op.ArgWord a b c d e g h i j k = absurd (e refl)
+other_number s f v op.RetWord a b c d e g h i j k = absurd (g refl)
+other_number s f v op.ResWord a b c d e g h i j k = absurd (h refl)
+other_number s f v op.OutWord a b c d e g h i j k = absurd (i refl)
+other_number s f v op.ArgReg a b c d e g h i j k = absurd (j refl)
+other_number s f v op.ResReg a b c d e g h i j k = absurd (k refl)
+other_number s f v _ a b c d e g h i j k = ((λ h. h), (λ h. h))
 
 -- words
 pub argument_word : (s : Setting) (f : FuncRecord) (v : ValueRecord) (o : Family) → o ≡ op.ArgWord → (IsData s v.ty × FitsWordOf s f.sig v.int v.ty) ↔ GivesWord s f v o

@@ -7,7 +7,7 @@ use Rattle.std.proofs.lemmas.Int.{to_z-of_z, ints}
 use Rattle.std.proofs.lemmas.Option.{none-some, same_Some}
 use Rattle.bk_ops.specs.declared.types.Ty.{Ty}
 use Rattle.bk_func.specs.Form.Signatures.{Setting}
-use Rattle.bk_func.specs.Form.Parts.{IsBetween, IsSigned}
+use Rattle.bk_func.specs.Form.Parts.{IsBetween}
 use Rattle.bk_func.specs.Form.Shapes.{IsAlike, FitsPlaceOf}
 use Rattle.bk_form.proofs.Standing.{at_some, slice_get_left, slice_get_right}
 
@@ -20,10 +20,6 @@ past_end xs ys k l = let e : k ≡ length xs + (k - length xs) = omega arith in 
 -- a number that is passed stays the same
 pub passed : (P : ℤ → Type 0) (z : ℤ) → FitsSigned w64 z → P (to_z w64 (of_z w64 z)) → P z
 passed P z fits h = subst P (to_z-of_z w64 z fits) h
-
--- a number of 64 bits is one with a sign
-pub is_long : (z : ℤ) → FitsSigned w64 z → IsSigned 64 z
-is_long z fits = (omega (arith, ints, fits), omega (arith, ints, fits))
 
 pub same_pos : (j k : ℕ) → pos j ≡ pos k → j ≡ k
 same_pos j k e = cc

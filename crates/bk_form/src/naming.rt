@@ -144,10 +144,10 @@ fn gives_state(value: &Value) -> bool
 pub(crate) fn is_first_init(value: &Value, initial: Option<u32>) -> bool
     ensures { IsTrue result ↔ (value.now.op.family ≡ InitMem → initial ≡ Some value.now.id) }
 {
-    if value.op.family != Family::InitMem {
-        return true;
+    match value.op.family {
+        Family::InitMem => initial == Some(value.id),
+        _ => true,
     }
-    initial == Some(value.id)
 }
 
 /// The number of the first `InitMem` of the entry.
@@ -176,5 +176,8 @@ pub(crate) fn init_in(block: &Block) -> Option<u32>
 fn is_init(value: &Value) -> bool
     ensures { IsTrue result ↔ (value.now.op.family ≡ InitMem) }
 {
-    value.op.family == Family::InitMem
+    match value.op.family {
+        Family::InitMem => true,
+        _ => false,
+    }
 }

@@ -91,7 +91,10 @@ fn taken(alloc: Global, flow: &Flow, node: &Node) -> Result<Vec<usize>, AllocErr
 fn is_phi(value: &Value) -> bool
     ensures { IsTrue result ↔ IsPhi value.now }
 {
-    value.op.family == Family::Phi
+    match value.op.family {
+        Family::Phi => true,
+        _ => false,
+    }
 }
 
 /// The places of the values with these numbers that stand in the block.

@@ -105,7 +105,7 @@ fn is_in_range(scope: &Scope, counted: &[bool], value: &Value) -> bool
         Family::ResWord => is_word_of_result(scope, value),
         Family::ArgReg => is_in_register(scope, scope.own().args, value.int),
         Family::ResReg => is_register_of_result(scope, value),
-        _ => true,
+        _ => is_signed(64, value.int),
     }
 }
 

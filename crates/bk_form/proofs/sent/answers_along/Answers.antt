@@ -1,12 +1,11 @@
 use Rattle.std.proofs.Common.{◌≡◌, ◌∙◌, ◌↔◌, sym, ap, subst, ℕ, length, replicate, None, Some, true, arith}
-use Rattle.std.specs.List.{Contains}
 use Rattle.std.specs.Option.{option_map}
 use Rattle.bk_ops.specs.Families.{is_word_call}
 use Rattle.bk_func.specs.Records.{ValueRecord, SigRecord}
 use Rattle.bk_func.specs.Form.Signatures.{sig_of}
 use Rattle.bk_form.specs.Names.{measure, seen_callee}
 use Rattle.bk_form.specs.Places.{NodeRecord, nodes_of}
-use Rattle.bk_form.specs.Sent.{Passes, LeadsTo}
+use Rattle.bk_form.specs.Sent.{Passes}
 use Rattle.bk_form.proofs.Copied.{values_named}
 use Rattle.bk_form.proofs.Flowing.{item_at}
 use Rattle.bk_form.proofs.Noting.{answers_none, asked_more}
@@ -28,7 +27,7 @@ pub named_beside-before-requires-clause-node : goal.named_beside-before-requires
 named_beside-before-requires-clause-node c =
     let f = c.args.flow.now.scope.func.now in
     let at = item_at (c.deref-node-items.ensures.value ∙ c.requires.flow.nodes) c.loop-node.node-index c.node-item.result c.loop-node-test.true c.node-item.is in
-    subst (λ (m : NodeRecord). Contains (nodes_of f) m) (sym c.node.view_is) (contains_at (nodes_of f) c.loop-node.node-index c.node-item.result at)
+    contains_at (nodes_of f) c.loop-node.node-index c.node-item.result at
 
 pub ask-requires-clause-size : goal.ask-requires-clause-size
 ask-requires-clause-size c = c.loop-node.invariant.answers.size
@@ -50,7 +49,7 @@ loop-node-preserved c =
           (λ (g : SigRecord).
           subst (λ (v : ValueRecord). (option_map seen_callee c.call_by-callee.result ≡ Some g) ↔ ((is_word_call v.op.family ≡ true) × (sig_of w.pkg.now v.aux ≡ Some g)))
           (ap (λ (x : NodeRecord). x.value) c.node.view_is) (c.call_by-callee.ensures g))
-          (subst (λ (x : NodeRecord). (q : ℕ) → (c.named_beside-before.result ≡ Some q) ↔ LeadsTo w.func.now x q) c.node.view_is c.named_beside-before.ensures))
+          c.named_beside-before.ensures)
           c.loop-node.invariant.answers c.in_ok-ask.ensures.size c.in_ok-ask.ensures.each;
     }
 

@@ -21,13 +21,13 @@ returns-in_default-clause-each c = λ p m e.
     (λ (g : SigRecord). Passes (measure w) w.func.now c.args.question g m.value)
     (ap (option_map seen_callee) (nothing_there c.args.callee c.in_default.not-Some))
 
-pub returns-in_default-start-clause-each : goal.returns-in_default-start-clause-each
-returns-in_default-start-clause-each c = λ p m e.
+pub returns-in_default-before-clause-each : goal.returns-in_default-before-clause-each
+returns-in_default-before-clause-each c = λ p m e.
     let w = c.args.flow.now.scope in
     let es = c.args.steps.now in
     asked_nowhere (option_map seen_callee c.args.callee) (get_or c.args.answers.now.items p false ≡ true) (IsFoundFrom es c.args.before p)
     (λ (g : SigRecord). Passes (measure w) w.func.now c.args.question g m.value)
-    (λ (j, is, path). none-some j (sym (nothing_there c.args.before c.in_default-start.not-Some) ∙ is))
+    (λ (j, is, path). none-some j (sym (nothing_there c.args.before c.in_default-before.not-Some) ∙ is))
 
 pub extend-requires-clause-closed : goal.extend-requires-clause-closed
 extend-requires-clause-closed c =
@@ -44,7 +44,7 @@ returns-clause-each c = λ p m e.
     let w = c.args.flow.now.scope in
     let es = c.args.steps.now in
     let g = seen_callee c.in-Some.callee in
-    let k = c.in-Some-start.start in
+    let k = c.in-Some-before.start in
     let reached = reached_by es c.len.result k c.args.search.now.labels.items c.args.search.now.reached.items c.extend.new.self.labels.items c.extend.new.self.reached.items (length es)
     c.requires.clear.labels c.in_ok-extend.ensures.marks c.in_ok-extend.ensures.grows c.in_ok-extend.ensures.found p in
     asked_one (option_map seen_callee c.args.callee) g (get_or c.note.new.answers.items p false ≡ true) (get_or c.args.answers.now.items p false ≡ true)
@@ -52,7 +52,7 @@ returns-clause-each c = λ p m e.
     (ap (option_map seen_callee) c.in-Some.is) (c.note.ensures.each p m e)
     (through (subst (λ (xs : List ℕ). Contains xs p ↔ Path es (length es) k p) (sym c.deref.ensures.value)
     (subst (λ (n : ℕ). Contains c.extend.new.self.reached.items p ↔ Path es n k p) c.len.ensures reached))
-    (found_from es c.args.before k p c.in-Some-start.is))
+    (found_from es c.args.before k p c.in-Some-before.is))
 
 pub returns-clause-clear : goal.returns-clause-clear
 returns-clause-clear c = record {

@@ -1,7 +1,6 @@
-use Rattle.std.proofs.Common.{◌≡◌, ◌∙◌, ◌↔◌, ◌+◌, sym, ap, subst, ℕ, List, length, arith}
-use Rattle.std.specs.List.{Contains}
-use Rattle.bk_form.specs.Places.{NodeRecord, nodes_of}
-use Rattle.bk_form.specs.Sent.{AreSteps, StepsTo}
+use Rattle.std.proofs.Common.{◌≡◌, ◌∙◌, ◌+◌, sym, ap, subst, ℕ, List, length, arith}
+use Rattle.bk_form.specs.Places.{nodes_of}
+use Rattle.bk_form.specs.Sent.{AreSteps}
 use Rattle.bk_form.proofs.Flowing.{item_at}
 use Rattle.bk_form.proofs.Sending.{steps_none, steps_more}
 use Rattle.bk_form.proofs.Standing.{contains_at}
@@ -12,7 +11,7 @@ step-requires-clause-node c =
     let f = c.args.flow.now.scope.func.now in
     let i = c.loop-node.node-index in
     let at = item_at (c.deref-node-items.ensures.value ∙ c.requires.flow.nodes) i c.node-item.result c.loop-node-test.true c.node-item.is in
-    subst (λ (m : NodeRecord). Contains (nodes_of f) m) (sym c.node.view_is) (contains_at (nodes_of f) i c.node-item.result at)
+    contains_at (nodes_of f) i c.node-item.result at
 
 pub loop-node-init : goal.loop-node-init
 loop-node-init c = subst (λ (es : List (List ℕ)). AreSteps c.args.flow.now.scope.func.now 0 es) (sym c.in_ok-steps.ensures) (steps_none c.args.flow.now.scope.func.now)
@@ -24,7 +23,7 @@ loop-node-preserved c =
     let at = item_at (c.deref-node-items.ensures.value ∙ c.requires.flow.nodes) i c.node-item.result c.loop-node-test.true c.node-item.is in
     subst (λ (es : List (List ℕ)). AreSteps f (i + 1) es) (sym c.in_ok-push.ensures)
     (steps_more f i c.loop-node.steps c.in_ok-behind.behind.items c.node-item.result c.loop-node.invariant at
-    (subst (λ (m : NodeRecord). (q : ℕ) → Contains c.in_ok-behind.behind.items q ↔ StepsTo f m q) c.node.view_is c.in_ok-behind.ensures))
+    c.in_ok-behind.ensures)
 
 pub returns : goal.returns
 returns c =

@@ -1,14 +1,14 @@
-use Rattle.std.proofs.Common.{rules, ℤ, FitsSigned, w64, Bool, ◌≡◌, ◌∙◌, ◌↔◌, sym, ap, subst, refl, true}
+use Rattle.std.proofs.Common.{rules, ℤ, Bool, ◌≡◌, ◌∙◌, ◌↔◌, sym, ap, subst, refl, true}
 use Rattle.std.specs.Bool.{IsTrue}
 use Rattle.bk_ops.specs.Table.{is_width}
 use Rattle.bk_func.specs.Records.{ValueRecord, SigRecord}
 use Rattle.bk_func.specs.Form.Parts.{IsSigned, IsBetween, IsArgumentWord, IsResultWord, IsInRegister}
 use Rattle.bk_form.specs.Names.{measure, seen_callee}
-use Rattle.bk_form.proofs.Families.{const_range, truth_range, trap_range, result_range, argument_word_range, return_word_range, result_word_range, argument_range, argument_register_range, result_register_range, no_range}
+use Rattle.bk_form.proofs.Families.{const_range, truth_range, trap_range, result_range, argument_word_range, return_word_range, result_word_range, argument_range, argument_register_range, result_register_range, other_number}
 use Rattle.bk_form.specs.declared.sent.Question.TheVariants.{Counted}
 use Rattle.bk_form.proofs.Ops.{const_width}
 use Rattle.bk_form.proofs.Sending.{answer_of}
-use Rattle.bk_form.proofs.Signatures.{is_long, passed}
+use Rattle.bk_form.proofs.Signatures.{passed}
 use Rattle.bk_form.proofs.Tables.{through}
 use Rattle.bk_form.proofs.width.is_in_range.Goals as goal
 
@@ -121,9 +121,8 @@ returns-in_default c =
     let v = c.args.value.now in
     let d = c.in_default in
     let family = ap (λ v. v.op.family) c.value.view_is in
-    let long : FitsSigned w64 c.value.inside.int = search rules in (
-      (λ t. no_range s f v v.op.family (λ e. d.not-Const (family ∙ e)) (λ e. d.not-ConstBool (family ∙ e)) (λ e. d.not-Trap (family ∙ e)) (λ e. d.not-SelectN (family ∙ e))
-          (λ e. d.not-ArgWord (family ∙ e)) (λ e. d.not-RetWord (family ∙ e)) (λ e. d.not-ResWord (family ∙ e)) (λ e. d.not-OutWord (family ∙ e))
-          (λ e. d.not-ArgReg (family ∙ e)) (λ e. d.not-ResReg (family ∙ e)) (subst (λ (w : ValueRecord). IsSigned 64 w.int) c.value.view_is (is_long c.value.inside.int long))),
-      (λ h. refl),
-    )
+    through (subst (λ (w : ValueRecord). IsTrue c.is_signed-in_default.result ↔ IsSigned 64 w.int) c.value.view_is
+    (passed (λ (z : ℤ). IsTrue c.is_signed-in_default.result ↔ IsSigned 64 z) c.value.inside.int (search rules) c.is_signed-in_default.ensures))
+    (other_number s f v v.op.family (λ e. d.not-Const (family ∙ e)) (λ e. d.not-ConstBool (family ∙ e)) (λ e. d.not-Trap (family ∙ e)) (λ e. d.not-SelectN (family ∙ e))
+    (λ e. d.not-ArgWord (family ∙ e)) (λ e. d.not-RetWord (family ∙ e)) (λ e. d.not-ResWord (family ∙ e)) (λ e. d.not-OutWord (family ∙ e))
+    (λ e. d.not-ArgReg (family ∙ e)) (λ e. d.not-ResReg (family ∙ e)))
