@@ -1,8 +1,8 @@
 -- What blocks and values do with memory, by the places that were found.
-use Rattle.std.proofs.Common.{◌≡◌, ◌≢◌, ◌∙◌, sym, refl, ap, subst, ℕ, ◌+◌, ◌<◌, ◌≤◌, ◌⊎◌, ◌↔◌, Bool, true, false, List, [], ◌∷◌, ◌++◌, length, get_or, Option, None, Some, inl, inr, ⊎_elim, arith}
+use Rattle.std.proofs.Common.{◌≡◌, ◌∙◌, sym, refl, ap, subst, ℕ, ◌+◌, ◌<◌, ◌≤◌, ◌⊎◌, ◌↔◌, Bool, true, false, List, [], ◌∷◌, ◌++◌, length, get_or, Option, None, Some, inl, inr, ⊎_elim, arith}
 use Rattle.std.specs.Bool.{IsTrue}
 use Rattle.std.specs.Borrow.{Bor}
-use Rattle.std.specs.List.{All, Contains, slice_get}
+use Rattle.std.specs.List.{Contains, slice_get}
 use Rattle.std.specs.Option.{MatchOption, option_and_then, is_some, option_copied, option_map, unwrap_or}
 use Rattle.std.specs.Slice.{IsItemAt}
 use Rattle.std.proofs.lemmas.Bool.{cases_lt, false≢true}
@@ -10,28 +10,27 @@ use Rattle.std.proofs.lemmas.List.{get_or_past}
 use Rattle.std.proofs.lemmas.Option.{none-some, same_Some, slice_get_within}
 use Rattle.bk_ops.specs.Families.{is_call_result}
 use Rattle.bk_ops.specs.declared.family.Family.TheVariants.{InitMem, MakeResult}
-use Rattle.bk_ops.specs.declared.types.Ty.TheVariants.{Mem, Tuple}
+use Rattle.bk_ops.specs.declared.types.Ty.TheVariants.{Mem}
 use Rattle.bk_func.specs.Records.{ValueRecord, BlockRecord, FuncRecord}
-use Rattle.bk_func.specs.Form.Text.{Defines, HasBlock, HasValue, IsEntry, IsFirstIn, IsPhi}
+use Rattle.bk_func.specs.Form.Text.{Defines, HasBlock, HasValue, IsFirstIn, IsPhi}
 use Rattle.bk_func.specs.Form.Walks.{IsReached}
 use Rattle.bk_func.specs.Form.Parts.{IsValueNumber}
-use Rattle.bk_func.specs.Form.States.{EndsItsBlock, EndsWithState, HasChain, HasMemoryPhi, IsChain, IsFirstState, IsLastState, IsLinked, first, more, IsState, IsStateOf, IsStateIn, NamesAt, Names, StandsFor, Starts}
+use Rattle.bk_func.specs.Form.States.{EndsItsBlock, EndsWithState, HasChain, HasMemoryPhi, IsChain, IsFirstState, IsLastState, IsLinked, first, more, IsState, IsStateOf, Names, StandsFor, Starts}
 use Rattle.bk_form.specs.Carried.{IsPlaceOf}
-use Rattle.bk_form.specs.Chains.{AreChains, AreHomes, IsChainOf, IsStateAt}
+use Rattle.bk_form.specs.Chains.{AreChains, AreHomes, IsChainOf}
 use Rattle.bk_form.specs.declared.chains.Chain.{Chain}
-use Rattle.bk_form.specs.declared.chains.Chain.TheVariants.{Empty, Linked, Broken}
+use Rattle.bk_form.specs.declared.chains.Chain.TheVariants.{Linked, Broken}
 use Rattle.bk_form.specs.Memories.{AreControls, At, EndsWith, IsControlled, Meets, NamesLast, NamesRight, NamesWithin, TakesBefore, TakesBehind, TakesLast}
 use Rattle.bk_form.specs.Naming.{NamesIf, NamesBy}
 use Rattle.bk_form.specs.Numbers.{block_ids, value_ids, sole}
 use Rattle.bk_form.specs.Places.{NodeRecord, node_at, nodes_of, node_named}
 use Rattle.bk_form.specs.Roots.{AreRoots}
-use Rattle.bk_form.specs.Search.{IsEdge, Reverses}
 use Rattle.bk_form.proofs.Bearers.{sole_is}
 use Rattle.bk_form.proofs.Copied.{AreValues, one_node, stands_at}
 use Rattle.bk_form.proofs.Filling.{Filled}
 use Rattle.bk_form.proofs.Lists.{lent}
-use Rattle.bk_form.proofs.Members.{first_in, later_in, none_in, first_or_later, last_in, same_end}
-use Rattle.bk_form.proofs.Standing.{contains_at, at_contains, at_some, node_in, node_stands, node_of, node_alone, block_alone, one_value, one_place}
+use Rattle.bk_form.proofs.Members.{first_in, none_in, first_or_later, last_in, same_end}
+use Rattle.bk_form.proofs.Standing.{contains_at, at_contains, at_some, node_in, node_stands, node_of, block_alone, one_value, one_place}
 use Rattle.bk_form.proofs.StateNames.{phi_names, stands_there}
 use Rattle.bk_form.specs.Walks.{block_edges, IsRow}
 use Rattle.bk_form.proofs.Walked.{AreNamed, block_there, home_of, reached_from, reached_to}

@@ -1,5 +1,5 @@
 -- What values name of memory.
-use Rattle.std.proofs.Common.{◌≡◌, ◌∙◌, sym, refl, ap, subst, ℕ, ◌+◌, ◌-◌, ◌<◌, ◌≤◌, ◌⊎◌, ◌↔◌, Bool, true, false, cond, List, [], length, get_or, Option, None, Some, inl, inr, ⊎_elim, arith}
+use Rattle.std.proofs.Common.{◌≡◌, ◌∙◌, sym, refl, ap, subst, ℕ, ◌+◌, ◌<◌, ◌↔◌, true, false, cond, List, length, get_or, Option, None, Some, inl, inr, ⊎_elim, arith}
 use Rattle.std.specs.List.{Contains, slice_get}
 use Rattle.std.specs.Option.{MatchOption}
 use Rattle.std.proofs.lemmas.Bool.{cases_order, false≢true}
@@ -10,7 +10,7 @@ use Rattle.bk_ops.specs.declared.table.Op.{Op}
 use Rattle.bk_ops.specs.declared.family.Family.{Family}
 use Rattle.bk_ops.specs.declared.family.Family.TheVariants.{Copy, InitMem, Phi, ResReg, ResWord, SelectN}
 use Rattle.bk_func.specs.Records.{ValueRecord, BlockRecord, FuncRecord}
-use Rattle.bk_func.specs.Form.Text.{HasBlock, HasValue, IsFirstIn, IsPhi}
+use Rattle.bk_func.specs.Form.Text.{HasValue, IsFirstIn, IsPhi}
 use Rattle.bk_func.specs.Form.States.{CopiesMemory, IsFirstInit, IsState, StandsFor, itself, copied, NamesAt, Names}
 use Rattle.bk_form.specs.Roots.{AreRoots}
 use Rattle.bk_form.specs.Naming.{GivesState, IsFirstOf, NamesFirst, NamesBy, NamesPlace, NamesIf}

@@ -1,6 +1,6 @@
 -- What the memory of a function is measured against.
-use Rattle.std.specs.Prelude.{◌≡◌, ◌↔◌, ℕ, ◌+◌, ◌<◌, false, List, length, Option, Some, None, slice_index_or, ◌⊎◌}
-use Rattle.std.specs.List.{Contains, slice_get}
+use Rattle.std.specs.Prelude.{◌≡◌, ℕ, ◌<◌, false, List, length, Option, Some, None, slice_index_or}
+use Rattle.std.specs.List.{slice_get}
 use Rattle.std.specs.Option.{option_and_then}
 use Rattle.bk_ops.specs.Families.{is_call_result}
 use Rattle.bk_ops.specs.declared.family.Family.TheVariants.{MakeResult}

@@ -55,7 +55,8 @@ pub(crate) fn is_result_word(scope: &Scope, callee: Callee, int: i64) -> bool
     ensures { IsTrue result ↔ IsResultWord (measure scope.now) (seen_callee callee.entry) int }
 {
     match place_of(int) {
-        Some(place) => callee.args.len() <= place && place - callee.args.len() < callee.results.len(),
+        Some(place) => callee.args.len() <= place
+            && place - callee.args.len() < callee.results.len(),
         None => false,
     }
 }

@@ -1,4 +1,4 @@
-use Rattle.std.proofs.Common.{◌≡◌, ◌∙◌, ◌↔◌, sym, ap, subst, ℕ, length, replicate, None, Some, true, arith}
+use Rattle.std.proofs.Common.{◌≡◌, ◌∙◌, ◌↔◌, ap, subst, length, replicate, None, Some, true, arith}
 use Rattle.std.specs.Option.{option_map}
 use Rattle.bk_ops.specs.Families.{is_word_call}
 use Rattle.bk_func.specs.Records.{ValueRecord, SigRecord}

@@ -1,11 +1,10 @@
-use Rattle.std.proofs.Common.{◌≡◌, ◌∙◌, ◌↔◌, sym, ap, subst, ℕ, Option, Some}
+use Rattle.std.proofs.Common.{◌∙◌, sym, ap, subst, ℕ, Option}
 use Rattle.std.proofs.lemmas.Bool.{false≢true}
 use Rattle.bk_func.specs.Form.Text.{HasValue}
 use Rattle.bk_func.specs.Records.{ValueRecord}
 use Rattle.bk_form.specs.Names.{measure}
 use Rattle.bk_form.specs.Naming.{NamesIf}
 use Rattle.bk_form.specs.Places.{NodeRecord, nodes_of}
-use Rattle.bk_form.specs.Sent.{LeadsTo}
 use Rattle.bk_form.proofs.Copied.{values_named, stands_at}
 use Rattle.bk_form.proofs.Sending.{leads_nowhere, leads_there, leads_away}
 use Rattle.bk_form.proofs.Standing.{at_contains}

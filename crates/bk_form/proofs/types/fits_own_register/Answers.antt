@@ -1,4 +1,4 @@
-use Rattle.std.proofs.Common.{◌↔◌, sym, subst, ap, List, ℤ, to_z, of_z, w64}
+use Rattle.std.proofs.Common.{◌↔◌, subst, ap, List, ℤ, to_z, of_z, w64}
 use Rattle.std.specs.Bool.{IsTrue}
 use Rattle.bk_ops.specs.declared.types.Ty.{Ty}
 use Rattle.bk_func.specs.Form.Shapes.{FitsPlaceOf}

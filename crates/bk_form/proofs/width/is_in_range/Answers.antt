@@ -1,4 +1,4 @@
-use Rattle.std.proofs.Common.{rules, ℤ, Bool, ◌≡◌, ◌∙◌, ◌↔◌, sym, ap, subst, refl, true}
+use Rattle.std.proofs.Common.{rules, ℤ, Bool, ◌≡◌, ◌∙◌, ◌↔◌, sym, ap, subst, true}
 use Rattle.std.specs.Bool.{IsTrue}
 use Rattle.bk_ops.specs.Table.{is_width}
 use Rattle.bk_func.specs.Records.{ValueRecord, SigRecord}
