@@ -1,12 +1,13 @@
 // The evaluation of one function of a package.
 ghost use Rattle.std.specs.Prelude.{◌≡◌, ℕ, ◌<◌, ◌↔◌, false, [], length, None, Some, IfOk, OnOk, IsErrOf, slice_get, slice_index};
 ghost use Rattle.bk_func.specs.Meaning.{meaning};
-ghost use Rattle.bk_mean.specs.Eval.{function_named, is_name, fit_at, program, EntersNone, AreFormed};
+ghost use Rattle.bk_mean.specs.Eval.{function_named, is_name, fit_at, program, fitted_outcome, EntersNone, AreFormed};
 ghost use Rattle.bk_mean.specs.Seen.{seen_outcome};
 ghost use Rattle.bk_mean.specs.declared.ready.Ready.{Ready as ReadyFunc};
 ghost use Rattle.bk_mean.specs.Running.{NoneReady, held, Calls, MakesReady, Opens, RunsAll, RunsTo, Starts, Takes};
 ghost use Rattle.bk_mean.specs.Symbols.{IsNaming};
 
+use crate::fit::push_fitted;
 use crate::machine::Machine;
 use crate::prepare::prepare;
 use crate::ready::Ready;
@@ -87,13 +88,16 @@ fn run(
     ensures meant { IfOk result (λ r. AreFormed pkg.now → (seen_outcome r.0, r.1.items) ≡ meaning (program pkg.now target frames.now) place args.now window.now stack bound) }
     ensures none_entered { IfOk result (λ r. EntersNone bound stack (slice_index frames.now place) → (seen_outcome r.0, r.1.items) ≡ meaning (program pkg.now target frames.now) place args.now window.now stack bound) }
 {
+    let sig = &pkg.funcs[place].sig;
     let symbols = Symbols::new(alloc, pkg)?;
     let mut readies = none_ready(alloc, pkg.funcs.len())?;
+    let mut hand = Vec::with_capacity(alloc, args.len())?;
+    push_fitted(&mut hand, target, &sig.args, args)?;
     let mut machine = Machine {
         alloc,
         target,
         window: window.to_vec(alloc)?,
-        hand: args.to_vec(alloc)?,
+        hand,
         numbers: Vec::new(alloc),
         calls: Vec::new(alloc),
     };
@@ -108,8 +112,28 @@ fn run(
         &mut readies,
         &mut machine,
     )?;
+    let outcome = fit_outcome(alloc, target, sig, outcome)?;
     let Machine { window, .. } = machine;
     Ok((outcome, window))
+}
+
+/// The same with each result modulo 2 to the width of its type.
+fn fit_outcome(
+    alloc: Global,
+    target: Target,
+    sig: &Sig,
+    outcome: Outcome,
+) -> Result<Outcome, AllocError>
+    ensures { IfOk result (λ o. seen_outcome o ≡ fitted_outcome target sig.now.results (seen_outcome outcome)) }
+{
+    match outcome {
+        Outcome::Returned(numbers) => {
+            let mut results = Vec::with_capacity(alloc, numbers.len())?;
+            push_fitted(&mut results, target, &sig.results, &numbers)?;
+            Ok(Outcome::Returned(results))
+        }
+        outcome => Ok(outcome),
+    }
 }
 
 /// A list of so many functions, none of which is ready.
@@ -250,7 +274,7 @@ fn open(
     machine: &mut Machine,
 ) -> Result<(), AllocError>
     ensures target { machine.new.target ≡ machine.old.target }
-    ensures opens { OnOk result ((r : ReadyFunc) → slice_get readies.now place ≡ Some (Some r) → Opens machine.old.target place func.now.sig r stack on_words (held machine.old) (held machine.new)) }
+    ensures opens { OnOk result ((r : ReadyFunc) → slice_get readies.now place ≡ Some (Some r) → Opens place func.now.sig r stack on_words (held machine.old) (held machine.new)) }
 {
     let Some(Some(ready)) = readies.get(place) else {
         return Ok(());
@@ -268,22 +292,22 @@ fn open_ready(
     machine: &mut Machine,
 ) -> Result<(), AllocError>
     ensures target { machine.new.target ≡ machine.old.target }
-    ensures opens { OnOk result (Opens machine.old.target place sig.now ready.now stack on_words (held machine.old) (held machine.new)) }
+    ensures opens { OnOk result (Opens place sig.now ready.now stack on_words (held machine.old) (held machine.new)) }
 {
     take(machine, on_words, sig)?;
-    machine.begin(place, sig, ready, stack)?;
+    machine.begin(place, ready, stack)?;
     Ok(())
 }
 
 /// Takes the words that were written for a call at hand, if the call is on words.
 fn take(machine: &mut Machine, on_words: bool, sig: &Sig) -> Result<(), AllocError>
     ensures target { machine.new.target ≡ machine.old.target }
-    ensures took { OnOk result (Takes on_words machine.old.target sig.now (held machine.old) (held machine.new)) }
+    ensures took { OnOk result (Takes on_words (length sig.now.args) (held machine.old) (held machine.new)) }
 {
     if !on_words {
         return Ok(());
     }
-    machine.take_words(sig)?;
+    machine.take_words(sig.args.len())?;
     Ok(())
 }
 

@@ -4,7 +4,7 @@ ghost use Rattle.std.specs.List.{position_or_len};
 ghost use Rattle.bk_num.specs.Memory.{data_base};
 ghost use Rattle.bk_func.specs.Records.{PackageRecord};
 ghost use Rattle.bk_func.specs.Numbers.{rounded, place_of_var, address_of};
-ghost use Rattle.bk_func.specs.Meaning.{symbol_of};
+ghost use Rattle.bk_func.specs.Symbols.{symbol_of};
 ghost use Rattle.bk_mean.specs.Symbols.{IsNaming, callee_found, callee_of, starts_from};
 
 use crate::memory::DATA_BASE;
