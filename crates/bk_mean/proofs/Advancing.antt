@@ -12,7 +12,8 @@ use Rattle.bk_func.specs.Edits.{block_of}
 use Rattle.bk_func.specs.Words.{all_words, numbers_at, fitted}
 use Rattle.bk_func.specs.Numbers.{Program, numbers, room, values_of, natural, is_mem}
 use Rattle.bk_func.specs.Effects.{Effect, call, call_words, pass, effect_of, has_effect}
-use Rattle.bk_func.specs.Meaning.{Outcome, World, Run, gives, stops, trapped, wild, Activation, first_state, entered, fitted_run, run, put, with_given, words_of_call, in_state, sig_of, symbol_of}
+use Rattle.bk_func.specs.Symbols.{sig_of, symbol_of}
+use Rattle.bk_func.specs.Meaning.{Outcome, World, Run, gives, stops, trapped, wild, Activation, first_state, entered, run, put, with_given, words_of_call, in_state}
 use Rattle.bk_func.specs.declared.form.FormKind.TheVariants.{Missing}
 use Rattle.bk_func.specs.Form.Text.{HasBlock, HasValue}
 use Rattle.bk_func.proofs.Faults.{In}

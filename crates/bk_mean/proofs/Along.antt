@@ -9,7 +9,8 @@ use Rattle.bk_func.specs.Records.{ValueRecord, BlockRecord, FuncRecord}
 use Rattle.bk_func.specs.Words.{numbers_at}
 use Rattle.bk_func.specs.Numbers.{Program, Env, value_in, natural, numbers, address_by, state_of}
 use Rattle.bk_func.specs.Effects.{Effect, store, zeros, move, panic_bounds, call, call_words, out_word, ret_word, trap, pass, effect_of, has_effect, is_at, next_at, onward, chain, chain_from, order}
-use Rattle.bk_func.specs.Meaning.{Outcome, wild, World, Run, gives, stops, bind, Activation, put, Calls, halted, first_fault, checked_at, store_size, stored_of, with_window, moved, symbol_of, sig_of, without_memory, with_given, words_of_call, done_by, in_state, done_at, performed, phi_by, is_first_state, state_or, first_state, entered}
+use Rattle.bk_func.specs.Symbols.{symbol_of, sig_of}
+use Rattle.bk_func.specs.Meaning.{Outcome, wild, World, Run, gives, stops, bind, Activation, put, Calls, halted, first_fault, checked_at, store_size, stored_of, with_window, moved, without_memory, with_given, words_of_call, done_by, in_state, done_at, performed, phi_by, is_first_state, state_or, first_state, entered}
 use Rattle.bk_func.specs.Form.Text.{Defines}
 use Rattle.bk_func.specs.Form.Walks.{IsReached, IsDefinedAt}
 use Rattle.bk_func.specs.Form.Before.{Needs}

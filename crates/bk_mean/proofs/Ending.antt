@@ -5,7 +5,8 @@ use Rattle.std.proofs.lemmas.Bool.{lt-ltb}
 use Rattle.bk_ops.specs.declared.types.Target.{Target}
 use Rattle.bk_func.specs.Records.{FuncRecord, PackageRecord}
 use Rattle.bk_func.specs.Numbers.{Program}
-use Rattle.bk_func.specs.Meaning.{Outcome, trapped, going, returned, wild, World, Run, gives, stops, begun, run, ended, meaning, symbol_of}
+use Rattle.bk_func.specs.Symbols.{symbol_of}
+use Rattle.bk_func.specs.Meaning.{Outcome, trapped, going, returned, wild, World, Run, gives, stops, begun, run, ended, meaning}
 use Rattle.bk_mean.specs.Eval.{EntersNone, end_of_none, AreFormed, AreInForm}
 use Rattle.bk_mean.specs.Running.{Held, top, stack_left, Advanced, AreReady, NoneReady, Starts, Calls, Opens, Takes, TakesWords, Begun, RunsTo, spent, enters, calls, fails, traps, wilds, returns, RunsAll}
 use Rattle.bk_mean.specs.declared.machine.Activation.{Activation as Active}

@@ -5,7 +5,8 @@ use Rattle.bk_func.specs.Records.{SigRecord, ValueRecord, BlockRecord, FuncRecor
 use Rattle.bk_func.specs.Words.{numbers_at, fitted}
 use Rattle.bk_func.specs.Numbers.{Program}
 use Rattle.bk_func.specs.Effects.{call, call_words, effect_of, chain_from}
-use Rattle.bk_func.specs.Meaning.{World, Run, gives, stops, trapped, going, Activation, first_state, entered, entry_id, fresh, fitted_run, run, called, begun, sig_of, symbol_of}
+use Rattle.bk_func.specs.Symbols.{sig_of, symbol_of}
+use Rattle.bk_func.specs.Meaning.{World, Run, gives, stops, trapped, going, Activation, first_state, entered, entry_id, fresh, run, called, begun}
 use Rattle.bk_func.specs.Form.Text.{HasBlock}
 use Rattle.bk_mean.specs.Seen.{word_in}
 use Rattle.bk_mean.specs.Turned.{Stage}
@@ -128,13 +129,13 @@ heads_within p readies l h r q = go q.k refl
       };
       next = q.next;
       run = q.run
-          ∙ ap (λ j. resume p q.frames (fitted_run p.target q.f.sig.results (run j p q.i q.act q.b.id q.place q.world))) e
-          ∙ ap (λ z. resume p q.frames (fitted_run p.target q.f.sig.results z)) (
+          ∙ ap (λ j. resume p q.frames (run j p q.i q.act q.b.id q.place q.world)) e
+          ∙ ap (λ z. resume p q.frames z) (
           run_enters k l p q.i q.act q.b.id q.place q.world q.f q.b (values_at q.b.values q.sits.course.order.items) q.left q.sits.learnt.func
           (found_block q.f (sound q.sits.learnt.set q.f q.sits.learnt.formed).named q.b (to_contains q.b q.f.blocks (got_in q.f.blocks q.top.block q.b q.sits.block)))
           (q.sits.learnt.order q.top.block q.b q.sits.course q.sits.block q.sits.its q.act.memory q.sits.arrives).laid
           )
-          ∙ ap (λ vs. resume p q.frames (fitted_run p.target q.f.sig.results (inside p q.i q.f q.b k vs (entered p q.f q.b q.place q.act (record q.world { left = l })) (record q.world { left = l })))) q.sits.parts;
+          ∙ ap (λ vs. resume p q.frames (inside p q.i q.f q.b k vs (entered p q.f q.b q.place q.act (record q.world { left = l })) (record q.world { left = l }))) q.sits.parts;
       left = refl;
     }
 
@@ -142,7 +143,7 @@ heads_within p readies l h r q = go q.k refl
 pub heads_spent : (p : Program) (readies : List (Option Ready)) (h : Held) (r : Run (List ℕ)) → Heads p readies 0 h r → r ≡ stops going h.window
 heads_spent p readies h r q =
     q.run
-    ∙ ap (λ z. resume p q.frames (fitted_run p.target q.f.sig.results z)) (run_spent q.k p q.i q.act q.b.id q.place q.world q.left)
+    ∙ ap (λ z. resume p q.frames z) (run_spent q.k p q.i q.act q.b.id q.place q.world q.left)
     ∙ resume_stops p q.frames going q.world.window
     ∙ ap (λ d. stops going d) q.sits.at.window
 
@@ -180,11 +181,11 @@ module _ (p : Program) (readies : List (Option Ready)) (n : ℕ) (h : Held) (r :
     sig_same : sig_of p.pkg (symbol_of q.frame.value.aux) ≡ f.sig
     sig_same = callee_sig p.pkg (symbol_of q.frame.value.aux) i f (sym q.callee ∙ is_func) func
 
-    run_now : r ≡ resume p (q.frame ∷ q.frames) (fitted_run p.target f.sig.results (run q.frame.fuel p i (fresh (fitted p.target f.sig.args q.given) (q.top.stack - slice_index p.frames i)) (entry_id f.blocks) 0 q.world))
+    run_now : r ≡ resume p (q.frame ∷ q.frames) (run q.frame.fuel p i (fresh (fitted p.target f.sig.args q.given) (q.top.stack - slice_index p.frames i)) (entry_id f.blocks) 0 q.world)
     run_now =
         called_run
         ∙ ap (resume p (q.frame ∷ q.frames)) (begun_enters p i f q.given q.frame.act.stack q.frame.fuel q.world func (ap (λ s. nat_lt s (slice_index p.frames i)) (sym q.waits.sits.stack) ∙ room))
-        ∙ ap (λ s. resume p (q.frame ∷ q.frames) (fitted_run p.target f.sig.results (run q.frame.fuel p i (fresh (fitted p.target f.sig.args q.given) (s - slice_index p.frames i)) (entry_id f.blocks) 0 q.world))) (sym q.waits.sits.stack)
+        ∙ ap (λ s. resume p (q.frame ∷ q.frames) (run q.frame.fuel p i (fresh (fitted p.target f.sig.args q.given) (s - slice_index p.frames i)) (entry_id f.blocks) 0 q.world)) (sym q.waits.sits.stack)
 
     stacked_on : (top : Active) → top.func ≡ q.top.func → top.block ≡ q.top.block → top.stack ≡ q.top.stack → top.next ≡ q.top.next → top.called_by ≡ q.top.called_by → top.base ≡ q.top.base → WordsTaken p q.frame q.top.words top.words f (fitted p.target f.sig.args q.given) →
         Stacked p more_ready n (q.frame ∷ q.frames) (q.calls ++ top ∷ []) (q.numbers ++ (q.front ++ q.args)) f (fitted p.target f.sig.args q.given)
@@ -227,7 +228,7 @@ module _ (p : Program) (readies : List (Option Ready)) (n : ℕ) (h : Held) (r :
       where
         go : ((effect_of q.frame.value.op.family q.frame.value.ty ≡ Some call) × (words ≡ false) × (h.hand ≡ q.given))
             ⊎ ((effect_of q.frame.value.op.family q.frame.value.ty ≡ Some call_words) × (words ≡ true) × (q.given ≡ numbers_at p.target (sig_of p.pkg (symbol_of q.frame.value.aux)).args q.frame.act.out 0)) →
-            Heads p more_ready n b (resume p (q.frame ∷ q.frames) (fitted_run p.target f.sig.results (run q.frame.fuel p i (fresh (fitted p.target f.sig.args q.given) (q.top.stack - slice_index p.frames i)) (entry_id f.blocks) 0 q.world)))
+            Heads p more_ready n b (resume p (q.frame ∷ q.frames) (run q.frame.fuel p i (fresh (fitted p.target f.sig.args q.given) (q.top.stack - slice_index p.frames i)) (entry_id f.blocks) 0 q.world))
         go (inl (e, o, hand)) =
             begun_heads p more_ready n i q.frame.fuel (q.top.stack - slice_index p.frames i) f ready learnt (q.frame ∷ q.frames) q.given h b
             (let P : List Active → Type 0 = λ z. Stacked p more_ready n (q.frame ∷ q.frames) z h.numbers f (fitted p.target f.sig.args q.given) in
@@ -243,7 +244,7 @@ module _ (p : Program) (readies : List (Option Ready)) (n : ℕ) (h : Held) (r :
         go : ((effect_of q.frame.value.op.family q.frame.value.ty ≡ Some call) × (words ≡ false) × (h.hand ≡ q.given))
             ⊎ ((effect_of q.frame.value.op.family q.frame.value.ty ≡ Some call_words) × (words ≡ true) × (q.given ≡ numbers_at p.target (sig_of p.pkg (symbol_of q.frame.value.aux)).args q.frame.act.out 0)) →
             (w : Words) × ((k : ℕ) → word_in w k ≡ 0) × (m.calls ≡ q.calls ++ (record q.top { words = record { out = w; back = q.top.words.back } }) ∷ []) →
-            Heads p more_ready n b (resume p (q.frame ∷ q.frames) (fitted_run p.target f.sig.results (run q.frame.fuel p i (fresh (fitted p.target f.sig.args q.given) (q.top.stack - slice_index p.frames i)) (entry_id f.blocks) 0 q.world)))
+            Heads p more_ready n b (resume p (q.frame ∷ q.frames) (run q.frame.fuel p i (fresh (fitted p.target f.sig.args q.given) (q.top.stack - slice_index p.frames i)) (entry_id f.blocks) 0 q.world))
         go (inl (e, o, hand)) w = absurd (let z = sym o ∙ on in cc)
         go (inr (e, o, giv)) (w, zero_all, calls) =
             begun_heads p more_ready n i q.frame.fuel (q.top.stack - slice_index p.frames i) f ready learnt (q.frame ∷ q.frames) q.given m b

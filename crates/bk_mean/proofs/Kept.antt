@@ -17,7 +17,7 @@ use Rattle.bk_mean.specs.Numbering.{found_in, place_in}
 use Rattle.bk_mean.specs.Arranged.{IsOrdered}
 use Rattle.bk_mean.specs.Ready.{is_result, call_place, results_at, KeepsResults}
 use Rattle.bk_mean.proofs.Named.{to_in, to_contains, got_index, to_flat, from_flat}
-use Rattle.bk_mean.proofs.Roles.{result_args, result_families, first_argument}
+use Rattle.bk_mean.proofs.Roles.{result_args, result_calls, first_argument}
 use Rattle.bk_mean.proofs.Formed.{Sound, sound}
 use Rattle.bk_mean.proofs.Knowing.{IsResultOf}
 use Rattle.bk_mean.proofs.Walked.{Arrives, arrives_meets}
@@ -97,7 +97,7 @@ module _ (s : Setting) (f : FuncRecord) (form : IsFormed s f) (b : BlockRecord) 
       let d = one_number f a v.id (place_in f v.id) n (place.1 ∙ ap Some (sym place_is)) in
       let c = from_flat (λ (x : BlockRecord). x.values) u f.blocks t.0 in
       let iu : HasValue f c.0 u = (to_contains c.0 f.blocks c.1, to_contains u c.0.values c.2) in
-      let w = (h.memory c.0 u iu).call (result_families u o) v.id (g ∙ ap Some d) in
+      let w = (h.memory c.0 u iu).call (result_calls u o) v.id (g ∙ ap Some d) in
       let same = h.named.same_block c.0 b w.0 v (iu.0, w.1) i w.2 in
       let P : BlockRecord → Type 0 = λ x. HasValue f x u in
       (u, (subst P same iu, o, got_index u.args 0 a g ∙ d), sym e)

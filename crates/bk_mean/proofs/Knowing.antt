@@ -17,7 +17,7 @@ use Rattle.bk_func.proofs.Faults.{In}
 use Rattle.bk_func.proofs.Flat.{one}
 use Rattle.bk_mean.proofs.Named.{to_in, to_contains, got_in, borne}
 use Rattle.bk_mean.proofs.Dominance.{defined_here, reached_block}
-use Rattle.bk_mean.proofs.Roles.{result_args, result_families, first_argument}
+use Rattle.bk_mean.proofs.Roles.{result_args, result_calls, first_argument}
 use Rattle.bk_mean.proofs.Formed.{Sound}
 use Rattle.bk_mean.proofs.Along.{IfGives, IsShown, entered_steady}
 use Rattle.bk_mean.proofs.Edges.{phi_entered}
@@ -36,7 +36,7 @@ by_call s f u v (inr o) h = inr ((let P : Family → Type 0 = λ g. FitsPlace s 
 -- what has results is a call, and has an effect
 pub call_families : (s : Setting) (f : FuncRecord) → Sound s f → (b : BlockRecord) (v u : ValueRecord) → HasValue f b v → IsResultOf f b v u → (v.op.family ≡ op.StaticLECall) ⊎ (v.op.family ≡ op.Call)
 call_families s f h b v u i (iu, o, e) =
-    by_call s f u v (result_families u o) ((h.types b u iu).args 0 b v i (first_argument u 0 (result_args s f b u (h.rows b u iu) o).0 ∙ ap Some e))
+    by_call s f u v (result_calls u o) ((h.types b u iu).args 0 b v i (first_argument u 0 (result_args s f b u (h.rows b u iu) o).0 ∙ ap Some e))
 
 pub call_acts : (s : Setting) (f : FuncRecord) → Sound s f → (b : BlockRecord) (v u : ValueRecord) → HasValue f b v → IsResultOf f b v u → has_effect v ≡ true
 call_acts s f h b v u i q = go (call_families s f h b v u i q)
@@ -132,7 +132,7 @@ knows_entered s f h p b r place a w shown m n before same phis x known = go (bor
     no_result : (u : ValueRecord) → HasValue f b u → origin_of u.op.family ≡ result → IsReady b [] u → ⊥
     no_result u i o ready =
         let got = first_argument u 0 (result_args s f b u (h.rows b u i) o).0 in
-        let t = (h.memory b u i).call (result_families u o) (slice_index u.args 0) got in
+        let t = (h.memory b u i).call (result_calls u o) (slice_index u.args 0) got in
         ready t.0 (result_takes s f h b t.0 u (i.0, t.1) (i, o, sym t.2))
 
     of_phi : (u : ValueRecord) → HasValue f b u → u.id ≡ x → IsPhi u → n x ≡ numbers p f (entered p f b place a w).env x

@@ -18,7 +18,8 @@ use Rattle.bk_func.specs.Edits.{block_of}
 use Rattle.bk_func.specs.Words.{numbers_at, fitted}
 use Rattle.bk_func.specs.Numbers.{Program, numbers, room, values_of, is_mem}
 use Rattle.bk_func.specs.Effects.{Effect, call, call_words, pass, effect_of, has_effect, chain_from}
-use Rattle.bk_func.specs.Meaning.{Outcome, World, Run, gives, stops, bind, trapped, wild, Activation, Entries, first_state, entered, edge_place, fitted_run, run, called, sig_of, symbol_of, without_memory, left_by, onto, results_by, value_named, is_taken}
+use Rattle.bk_func.specs.Symbols.{sig_of, symbol_of}
+use Rattle.bk_func.specs.Meaning.{Outcome, World, Run, gives, stops, bind, trapped, wild, Activation, Entries, first_state, entered, edge_place, run, called, without_memory, left_by, onto, results_by, value_named, is_taken}
 use Rattle.bk_func.specs.declared.form.FormKind.TheVariants.{Missing, Control, Use}
 use Rattle.bk_func.specs.Form.{IsFormed}
 use Rattle.bk_func.specs.Form.Text.{HasBlock, HasValue, IsPhi}
@@ -147,9 +148,9 @@ on_words _ ty e = absurd cc
 
 -- the ends of runs reach through the calls that wait
 ended_run : (p : Program) (frs : List Frame) (f : FuncRecord) (i : ℕ) (b : BlockRecord) (k : ℕ) (vs : List ValueRecord) (a : Activation) (w : World) (o : Outcome) (d : List ℕ) → flat (called (run k p) p) p f vs a w ≡ stops o d →
-    resume p frs (fitted_run p.target f.sig.results (inside p i f b k vs a w)) ≡ stops o d
+    resume p frs (inside p i f b k vs a w) ≡ stops o d
 ended_run p frs f i b k vs a w o d e =
-    ap (λ (r : Run Activation). resume p frs (fitted_run p.target f.sig.results (bind r (λ d y. left_by b.kind (run k p) p i f b d y)))) e ∙ resume_stops p frs o d
+    ap (λ (r : Run Activation). resume p frs (bind r (λ d y. left_by b.kind (run k p) p i f b d y))) e ∙ resume_stops p frs o d
 
 module _ (p : Program) (readies : List (Option Ready)) (n : ℕ) (h : Held) (r : Run (List ℕ)) (q : Within p readies n h r) (d : Active) (e : Store) (x : Next) (moved : Moved p.target p.pkg readies q.top d (stored h) e x) where
   abbrev its : Sits p readies q.k q.i q.f q.b q.m q.pre q.rest q.top q.front q.args q.top.words h.window q.act q.world
@@ -222,8 +223,8 @@ module _ (p : Program) (readies : List (Option Ready)) (n : ℕ) (h : Held) (r :
       round p learnt.set q.f q.b q.m (due_level q.f q.b (first_state q.b q.m)) due_class (values_at q.b.values its.course.order.items) order g q.top.block its.course.first its.block block_known.first its.ready.values.items learnt.values (called (run q.k p) p)
       (drop q.top.next its.course.order.items) (drop ran.at its.course.order.items) (record { numbers = q.front; window = h.window; words = q.top.words }) ran.stage ran.by ran.after ran.turned q.pre (its.parts ∙ ap (λ vs. q.pre ++ vs) q.next) q.act q.world its.at
 
-  run_left : r ≡ resume p q.frames (fitted_run p.target q.f.sig.results (inside p q.i q.f q.b q.k left q.act q.world))
-  run_left = q.run ∙ ap (λ vs. resume p q.frames (fitted_run p.target q.f.sig.results (inside p q.i q.f q.b q.k vs q.act q.world))) q.next
+  run_left : r ≡ resume p q.frames (inside p q.i q.f q.b q.k left q.act q.world)
+  run_left = q.run ∙ ap (λ vs. resume p q.frames (inside p q.i q.f q.b q.k vs q.act q.world)) q.next
 
   -- what the call on top comes to
   abbrev now : Held
@@ -367,7 +368,7 @@ module _ (p : Program) (readies : List (Option Ready)) (n : ℕ) (h : Held) (r :
 
   -- an edge is crossed
   cross : (c : Activation) (y : World) → IsAt p q.f q.b q.m g done ran.stage c y → c.stack ≡ q.act.stack → y.left ≡ q.world.left → (index sid : ℕ) → slice_get q.b.succs index ≡ Some sid → (edge : Edge) → IsReadyEdge q.f q.b index edge →
-      Crosses its.ready edge.block edge.place before behind x → r ≡ resume p q.frames (fitted_run p.target q.f.sig.results (onto (run q.k p) q.i q.f q.b index c y)) → Yields x
+      Crosses its.ready edge.block edge.place before behind x → r ≡ resume p q.frames (onto (run q.k p) q.i q.f q.b index c y) → Yields x
   cross c y at st le index sid succ edge known crosses runs = by_block (found_at sid q.f.blocks (number_there q.f sid (all_at q.f index sid q.b.succs succ ((formed.kinds Missing q.b has_b).block.succs))))
     where
       entering : (j : ℕ) (b : BlockRecord) (course : ReadyBlock) → edge.block ≡ Some j → slice_get q.f.blocks j ≡ Some b → b.id ≡ sid → slice_get its.ready.blocks.items j ≡ Some course → Yields x
@@ -437,8 +438,8 @@ module _ (p : Program) (readies : List (Option Ready)) (n : ℕ) (h : Held) (r :
               fuel = (let a = its.fuel in omega (arith, a, le));
             };
             next = ap (λ (z : Active). values_at b.values (drop z.next course.order.items)) (sym crosses_in.1);
-            run = runs ∙ ap (λ m. resume p q.frames (fitted_run p.target q.f.sig.results (run q.k p q.i c m (edge_place q.b index (block_of q.f (slice_index q.b.succs index))) y))) idx
-                ∙ ap (λ m. resume p q.frames (fitted_run p.target q.f.sig.results (run q.k p q.i c b.id m y))) (sym known.place);
+            run = runs ∙ ap (λ m. resume p q.frames (run q.k p q.i c m (edge_place q.b index (block_of q.f (slice_index q.b.succs index))) y)) idx
+                ∙ ap (λ m. resume p q.frames (run q.k p q.i c b.id m y)) (sym known.place);
             left = le ∙ q.left;
           }
 
@@ -458,19 +459,19 @@ module _ (p : Program) (readies : List (Option Ready)) (n : ℕ) (h : Held) (r :
       control_kept : KeepsControl q.f q.b
       control_kept = (formed.kinds Control q.b has_b).block
 
-      run_end : (k : Kind) → q.b.kind ≡ k → r ≡ resume p q.frames (fitted_run p.target q.f.sig.results (left_by k (run q.k p) p q.i q.f q.b c y))
+      run_end : (k : Kind) → q.b.kind ≡ k → r ≡ resume p q.frames (left_by k (run q.k p) p q.i q.f q.b c y)
       run_end k e =
           run_left
-          ∙ ap (λ (z : Run Activation). resume p q.frames (fitted_run p.target q.f.sig.results (bind z (λ c y. left_by q.b.kind (run q.k p) p q.i q.f q.b c y)))) flat_gives
-          ∙ ap (λ z. resume p q.frames (fitted_run p.target q.f.sig.results (left_by z (run q.k p) p q.i q.f q.b c y))) e
+          ∙ ap (λ (z : Run Activation). resume p q.frames (bind z (λ c y. left_by q.b.kind (run q.k p) p q.i q.f q.b c y))) flat_gives
+          ∙ ap (λ z. resume p q.frames (left_by z (run q.k p) p q.i q.f q.b c y)) e
 
       known : (n : ℕ) → IsDefinedAt q.f q.b n → table q.f ran.stage.numbers n ≡ numbers p q.f c.env n
       known m defined = end_known p learnt.set q.f q.b q.m (due_level q.f q.b (first_state q.b q.m)) due_class done order g ran.stage c y at m defined
 
-      zero_edge : (sid : ℕ) → slice_get q.b.succs 0 ≡ Some sid → r ≡ resume p q.frames (fitted_run p.target q.f.sig.results (onto (run q.k p) q.i q.f q.b 0 c y)) → Crosses its.ready its.course.edge.block its.course.edge.place before behind x → Yields x
+      zero_edge : (sid : ℕ) → slice_get q.b.succs 0 ≡ Some sid → r ≡ resume p q.frames (onto (run q.k p) q.i q.f q.b 0 c y) → Crosses its.ready its.course.edge.block its.course.edge.place before behind x → Yields x
       zero_edge sid s runs crosses = cross c y at st le 0 sid s its.course.edge block_known.edge crosses runs
 
-      first_edge : length q.b.succs ≡ 1 → (k : Kind) → r ≡ resume p q.frames (fitted_run p.target q.f.sig.results (onto (run q.k p) q.i q.f q.b 0 c y)) → Crosses its.ready its.course.edge.block its.course.edge.place before behind x → Yields x
+      first_edge : length q.b.succs ≡ 1 → (k : Kind) → r ≡ resume p q.frames (onto (run q.k p) q.i q.f q.b 0 c y) → Crosses its.ready its.course.edge.block its.course.edge.place before behind x → Yields x
       first_edge l k runs crosses = let s = get_there q.b.succs 0 (omega (arith, l)) in cross c y at st le 0 s.0 s.1 its.course.edge block_known.edge crosses runs
 
       -- of two edges the second is taken where the control is even
@@ -485,11 +486,11 @@ module _ (p : Program) (readies : List (Option Ready)) (n : ℕ) (h : Held) (r :
           number_even = ap (λ n. n % 2 == 0) control_number
 
           runs_by : (t : Bool) → (numbers p q.f c.env id % 2 == 0) ≡ t →
-              r ≡ resume p q.frames (fitted_run p.target q.f.sig.results (if not t then onto (run q.k p) q.i q.f q.b 0 c y else onto (run q.k p) q.i q.f q.b 1 c y))
+              r ≡ resume p q.frames (if not t then onto (run q.k p) q.i q.f q.b 0 c y else onto (run q.k p) q.i q.f q.b 1 c y)
           runs_by t k =
               run_end If e
-              ∙ ap (λ o. resume p q.frames (fitted_run p.target q.f.sig.results (if is_taken p q.f c o then onto (run q.k p) q.i q.f q.b 0 c y else onto (run q.k p) q.i q.f q.b 1 c y))) ctrl
-              ∙ ap (λ b. resume p q.frames (fitted_run p.target q.f.sig.results (if not b then onto (run q.k p) q.i q.f q.b 0 c y else onto (run q.k p) q.i q.f q.b 1 c y))) k
+              ∙ ap (λ o. resume p q.frames (if is_taken p q.f c o then onto (run q.k p) q.i q.f q.b 0 c y else onto (run q.k p) q.i q.f q.b 1 c y)) ctrl
+              ∙ ap (λ b. resume p q.frames (if not b then onto (run q.k p) q.i q.f q.b 0 c y else onto (run q.k p) q.i q.f q.b 1 c y)) k
 
           go : (t : Bool) → (numbers p q.f c.env id % 2 == 0) ≡ t → Crosses its.ready (chosen t its.course).block (chosen t its.course).place before behind x → Yields x
           go true k z = let s = get_there q.b.succs 1 (omega (arith, l)) in cross c y at st le 1 s.0 s.1 its.course.other block_known.other z (runs_by true k)

@@ -6,7 +6,8 @@ use Rattle.bk_func.specs.Edits.{block_of}
 use Rattle.bk_func.specs.Words.{numbers_at}
 use Rattle.bk_func.specs.Numbers.{Program, numbers}
 use Rattle.bk_func.specs.Effects.{Effect, call, call_words, effect_of, chain_from}
-use Rattle.bk_func.specs.Meaning.{Outcome, with_given, words_of_call, World, Run, gives, stops, bind, trapped, going, Activation, Entries, Calls, done_by, done_at, halted, fault_at, in_state, in_func, in_block, at_count, entered, first_state, performed, left_by, run, called, begun, begun_at, fitted_run, sig_of, symbol_of, without_memory, panic_divide, panic_shift}
+use Rattle.bk_func.specs.Symbols.{sig_of, symbol_of, panic_divide, panic_shift}
+use Rattle.bk_func.specs.Meaning.{Outcome, with_given, words_of_call, World, Run, gives, stops, bind, trapped, going, Activation, Entries, Calls, done_by, done_at, halted, fault_at, in_state, in_func, in_block, at_count, entered, first_state, performed, left_by, run, called, begun, begun_at, without_memory}
 use Rattle.bk_func.proofs.Flat.{Laid, one, flat, bind_bind, bind_same, performed_flat}
 use Rattle.bk_mean.specs.declared.symbols.Callee.{Callee}
 use Rattle.bk_mean.specs.declared.symbols.Callee.TheVariants.{Func, PanicDivide, PanicShift, Missing}
@@ -37,7 +38,7 @@ after_call p fr results w = bind (one (gave results w) p fr.func fr.value fr.act
 -- the rest of a run, where the call on top comes to results
 abbrev pub resume : Program → List Frame → Run (List ℕ) → Run (List ℕ)
 resume p [] r = r
-resume p (fr ∷ frs) r = resume p frs (fitted_run p.target fr.func.sig.results (bind r (after_call p fr)))
+resume p (fr ∷ frs) r = resume p frs (bind r (after_call p fr))
 
 pub resume_stops : (p : Program) (frs : List Frame) (o : Outcome) (d : List ℕ) → resume p frs (stops o d) ≡ stops o d
 resume_stops p [] o d = refl
@@ -79,8 +80,8 @@ pub wait_run : (p : Program) (fr : Frame) (vs : List ValueRecord) (a : Activatio
     flat (called (run fr.fuel p) p) p fr.func vs a w ≡ bind (one (called (run fr.fuel p) p) p fr.func fr.value fr.act world) (λ d y. flat (called (run fr.fuel p) p) p fr.func fr.rest d y) →
     one (called (run fr.fuel p) p) p fr.func fr.value fr.act world ≡ bind (called (run fr.fuel p) p (symbol_of fr.value.aux) args fr.act.stack world) (λ rs y. one (gave rs y) p fr.func fr.value fr.act y) →
     (frs : List Frame) →
-    resume p frs (fitted_run p.target fr.func.sig.results (inside p fr.place fr.func fr.block fr.fuel vs a w)) ≡ resume p (fr ∷ frs) (called (run fr.fuel p) p (symbol_of fr.value.aux) args fr.act.stack world)
-wait_run p fr vs a w world args e q frs = ap (λ (r : Run (List ℕ)). resume p frs (fitted_run p.target fr.func.sig.results r)) (
+    resume p frs (inside p fr.place fr.func fr.block fr.fuel vs a w) ≡ resume p (fr ∷ frs) (called (run fr.fuel p) p (symbol_of fr.value.aux) args fr.act.stack world)
+wait_run p fr vs a w world args e q frs = ap (λ (r : Run (List ℕ)). resume p frs r) (
     ap (λ (r : Run Activation). bind r out) e
     ∙ bind_bind (one (called (run fr.fuel p) p) p fr.func fr.value fr.act world) (λ d y. flat (called (run fr.fuel p) p) p fr.func fr.rest d y) out
     ∙ ap (λ (r : Run Activation). bind r (λ d y. inside p fr.place fr.func fr.block fr.fuel fr.rest d y)) q
@@ -92,8 +93,8 @@ wait_run p fr vs a w world args e q frs = ap (λ (r : Run (List ℕ)). resume p 
 
 -- what a call gives goes to the one that waits for it
 pub return_run : (p : Program) (fr : Frame) (frs : List Frame) (rs : List ℕ) (y : World) (d : Activation) → one (gave rs y) p fr.func fr.value fr.act y ≡ gives d y →
-    resume p (fr ∷ frs) (gives rs y) ≡ resume p frs (fitted_run p.target fr.func.sig.results (inside p fr.place fr.func fr.block fr.fuel fr.rest d y))
-return_run p fr frs rs y d e = ap (λ (r : Run Activation). resume p frs (fitted_run p.target fr.func.sig.results (bind r (λ d y. inside p fr.place fr.func fr.block fr.fuel fr.rest d y)))) e
+    resume p (fr ∷ frs) (gives rs y) ≡ resume p frs (inside p fr.place fr.func fr.block fr.fuel fr.rest d y)
+return_run p fr frs rs y d e = ap (λ (r : Run Activation). resume p frs (bind r (λ d y. inside p fr.place fr.func fr.block fr.fuel fr.rest d y))) e
 
 -- no more blocks may be entered
 pub run_spent : (k : ℕ) (p : Program) (i : ℕ) (a : Activation) (id place : ℕ) (w : World) → w.left ≡ 0 → run k p i a id place w ≡ stops going w.window

@@ -7,7 +7,8 @@ use Rattle.bk_func.specs.Records.{SigRecord, ValueRecord, BlockRecord, FuncRecor
 use Rattle.bk_func.specs.Words.{numbers_at, fitted}
 use Rattle.bk_func.specs.Numbers.{Program, room, values_of, natural, origin_of, result}
 use Rattle.bk_func.specs.Effects.{call, call_words, effect_of}
-use Rattle.bk_func.specs.Meaning.{World, Run, gives, stops, Activation, first_state, entered, fitted_run, run as runs, called, sig_of, symbol_of, without_memory}
+use Rattle.bk_func.specs.Symbols.{sig_of, symbol_of}
+use Rattle.bk_func.specs.Meaning.{World, Run, gives, stops, Activation, first_state, entered, run as runs, called, without_memory}
 use Rattle.bk_func.specs.Form.{IsFormed}
 use Rattle.bk_func.specs.Form.Text.{HasValue}
 use Rattle.bk_func.specs.Form.Signatures.{Setting}
@@ -118,7 +119,7 @@ pub record Within (p : Program) (readies : List (Option Ready)) (n : ℕ) (h : H
   pub stacked : Stacked p readies n frames calls numbers f args
   pub sits : Sits p readies k i f b m pre rest top front args top.words h.window act world
   pub next : rest ≡ values_at b.values (drop top.next sits.course.order.items)
-  pub run : r ≡ resume p frames (fitted_run p.target f.sig.results (inside p i f b k rest act world))
+  pub run : r ≡ resume p frames (inside p i f b k rest act world)
   pub left : world.left ≡ n
 
 -- a machine is at the entry of a block
@@ -143,7 +144,7 @@ pub record Heads (p : Program) (readies : List (Option Ready)) (n : ℕ) (h : He
   pub stacked : Stacked p readies n frames calls numbers f args
   pub sits : Sits p readies k i f b act.memory [] rest top front args top.words h.window (entered p f b place act world) world
   pub next : rest ≡ values_at b.values (drop top.next sits.course.order.items)
-  pub run : r ≡ resume p frames (fitted_run p.target f.sig.results (runs k p i act b.id place world))
+  pub run : r ≡ resume p frames (runs k p i act b.id place world)
   pub left : world.left ≡ n
 
 -- a machine calls a function: the call that waits for it is on top

@@ -11,7 +11,8 @@ use Rattle.bk_func.specs.Records.{SigRecord, ValueRecord, BlockRecord, FuncRecor
 use Rattle.bk_func.specs.Words.{numbers_at, fitted}
 use Rattle.bk_func.specs.Numbers.{Program, numbers, room, result, origin_of}
 use Rattle.bk_func.specs.Effects.{call, call_words, effect_of}
-use Rattle.bk_func.specs.Meaning.{World, Run, gives, stops, trapped, Activation, first_state, entered, entry_id, fresh, fitted_run, run, begun, begun_in, sig_of, sig_of_some, symbol_of, number_named, panic_divide, panic_shift}
+use Rattle.bk_func.specs.Symbols.{sig_of, sig_of_some, symbol_of, panic_divide, panic_shift}
+use Rattle.bk_func.specs.Meaning.{World, Run, gives, stops, trapped, Activation, first_state, entered, entry_id, fresh, run, begun, begun_in, number_named}
 use Rattle.bk_func.specs.declared.form.FormKind.TheVariants.{Missing, Control}
 use Rattle.bk_func.specs.Form.{IsFormed}
 use Rattle.bk_func.specs.Form.Text.{HasBlock, HasValue, Defines, IsEntry, IsPhi}
@@ -32,7 +33,7 @@ use Rattle.bk_mean.specs.declared.symbols.Callee.TheVariants.{Func, PanicDivide,
 use Rattle.bk_mean.proofs.Named.{to_in, to_contains, got_in}
 use Rattle.bk_mean.proofs.Formed.{Sound, sound}
 use Rattle.bk_mean.proofs.Dominance.{entry_reached, reached_block}
-use Rattle.bk_mean.proofs.Roles.{result_args, result_families, first_argument}
+use Rattle.bk_mean.proofs.Roles.{result_args, result_calls, first_argument}
 use Rattle.bk_mean.proofs.Edges.{phi_entered}
 use Rattle.bk_mean.proofs.Arranged.{values_at}
 use Rattle.bk_mean.proofs.Along.{IsShown, entered_shown}
@@ -93,7 +94,7 @@ module _ (s : Setting) (f : FuncRecord) (formed : IsFormed s f) (p : Program) (b
       no_result : (u : ValueRecord) → HasValue f b u → origin_of u.op.family ≡ result → IsReady b [] u → ⊥
       no_result u i o ready =
           let got = first_argument u 0 (result_args s f b u (h.rows b u i) o).0 in
-          let t = (h.memory b u i).call (result_families u o) (slice_index u.args 0) got in
+          let t = (h.memory b u i).call (result_calls u o) (slice_index u.args 0) got in
           ready t.0 (result_takes s f h b t.0 u (i.0, t.1) (i, o, sym t.2))
 
       of_phi : (u : ValueRecord) → HasValue f b u → u.id ≡ n → IsPhi u → m n ≡ numbers p f (entered p f b 0 a w).env n
@@ -114,7 +115,7 @@ module _ (s : Setting) (f : FuncRecord) (formed : IsFormed s f) (p : Program) (b
 -- a call that begins stands at the entry of its function
 pub begun_heads : (p : Program) (readies : List (Option Ready)) (n i k stack : ℕ) (f : FuncRecord) (r : Ready) → Learnt p readies i f r → (frs : List Frame) (given : List ℕ) (a b : Held) → Stacked p readies n frs a.calls a.numbers f (fitted p.target f.sig.args given) →
     fitted p.target f.sig.args a.hand ≡ fitted p.target f.sig.args given → Begun p.target i f.sig (length r.values.items) stack a b → (w : World) → w.window ≡ a.window → w.left ≡ n → n ≤ k →
-    Heads p readies n b (resume p frs (fitted_run p.target f.sig.results (run k p i (fresh (fitted p.target f.sig.args given) stack) (entry_id f.blocks) 0 w)))
+    Heads p readies n b (resume p frs (run k p i (fresh (fitted p.target f.sig.args given) stack) (entry_id f.blocks) 0 w))
 begun_heads p readies n i k stack f r learnt frs given a b stacked same begun w win left fuel = at_entry (first_block f.blocks learnt.formed.blocks)
   where
     args : List ℕ
@@ -123,10 +124,10 @@ begun_heads p readies n i k stack f r learnt frs given a b stacked same begun w 
     values_length : length r.values.items ≡ room f
     values_length = zip_length _ _ r.values.items learnt.values
 
-    at_entry : (c : BlockRecord) × (slice_get f.blocks 0 ≡ Some c) × (entry_id f.blocks ≡ c.id) → Heads p readies n b (resume p frs (fitted_run p.target f.sig.results (run k p i (fresh (fitted p.target f.sig.args given) stack) (entry_id f.blocks) 0 w)))
+    at_entry : (c : BlockRecord) × (slice_get f.blocks 0 ≡ Some c) × (entry_id f.blocks ≡ c.id) → Heads p readies n b (resume p frs (run k p i (fresh (fitted p.target f.sig.args given) stack) (entry_id f.blocks) 0 w))
     at_entry (c, entry, id) = in_course (get_there r.blocks.items 0 (let l = learnt.blocks.length in let q = slice_get_within f.blocks 0 c entry in omega (arith, l, q)))
       where
-        in_course : (course : ReadyBlock) × (slice_get r.blocks.items 0 ≡ Some course) → Heads p readies n b (resume p frs (fitted_run p.target f.sig.results (run k p i (fresh (fitted p.target f.sig.args given) stack) (entry_id f.blocks) 0 w)))
+        in_course : (course : ReadyBlock) × (slice_get r.blocks.items 0 ≡ Some course) → Heads p readies n b (resume p frs (run k p i (fresh (fitted p.target f.sig.args given) stack) (entry_id f.blocks) 0 w))
         in_course (course, got) = record {
           frames = frs;
           calls = a.calls;
@@ -172,7 +173,7 @@ begun_heads p readies n i k stack f r learnt frs given a b stacked same begun w 
             fuel = (let l = left in omega (arith, l, fuel));
           };
           next = refl;
-          run = ap (λ z. resume p frs (fitted_run p.target f.sig.results (run k p i (fresh (fitted p.target f.sig.args given) stack) z 0 w))) id;
+          run = ap (λ z. resume p frs (run k p i (fresh (fitted p.target f.sig.args given) stack) z 0 w)) id;
           left = left;
         }
 
@@ -180,13 +181,13 @@ begun_heads p readies n i k stack f r learnt frs given a b stacked same begun w 
 pub begun_traps : (p : Program) (i : ℕ) (f : FuncRecord) (args : List ℕ) (stack k : ℕ) (w : World) → slice_get p.pkg.funcs i ≡ Some f → nat_lt stack (slice_index p.frames i) ≡ true → begun (run k p) p i args stack w ≡ stops (trapped 5) w.window
 begun_traps p i f args stack k w e t =
     ap (λ o. begun_in o (run k p) p i args stack w) e
-    ∙ ap (λ z. if z then stops (trapped 5) w.window else fitted_run p.target f.sig.results (run k p i (fresh (fitted p.target f.sig.args args) (stack - slice_index p.frames i)) (entry_id f.blocks) 0 w)) t
+    ∙ ap (λ z. if z then stops (trapped 5) w.window else (run k p i (fresh (fitted p.target f.sig.args args) (stack - slice_index p.frames i)) (entry_id f.blocks) 0 w)) t
 
 pub begun_enters : (p : Program) (i : ℕ) (f : FuncRecord) (args : List ℕ) (stack k : ℕ) (w : World) → slice_get p.pkg.funcs i ≡ Some f → nat_lt stack (slice_index p.frames i) ≡ false →
-    begun (run k p) p i args stack w ≡ fitted_run p.target f.sig.results (run k p i (fresh (fitted p.target f.sig.args args) (stack - slice_index p.frames i)) (entry_id f.blocks) 0 w)
+    begun (run k p) p i args stack w ≡ (run k p i (fresh (fitted p.target f.sig.args args) (stack - slice_index p.frames i)) (entry_id f.blocks) 0 w)
 begun_enters p i f args stack k w e t =
     ap (λ o. begun_in o (run k p) p i args stack w) e
-    ∙ ap (λ z. if z then stops (trapped 5) w.window else fitted_run p.target f.sig.results (run k p i (fresh (fitted p.target f.sig.args args) (stack - slice_index p.frames i)) (entry_id f.blocks) 0 w)) t
+    ∙ ap (λ z. if z then stops (trapped 5) w.window else (run k p i (fresh (fitted p.target f.sig.args args) (stack - slice_index p.frames i)) (entry_id f.blocks) 0 w)) t
 
 -- the function that a name calls is the one whose signature it has
 
