@@ -1,5 +1,6 @@
 // The evaluation of one function of a package.
 ghost use Rattle.std.specs.Prelude.{◌≡◌, ℕ, ◌<◌, ◌↔◌, false, [], length, None, Some, IfOk, OnOk, IsErrOf, slice_get, slice_index};
+ghost use Rattle.bk_func.specs.Words.{fitted as meant_fitted};
 ghost use Rattle.bk_func.specs.Meaning.{meaning};
 ghost use Rattle.bk_mean.specs.Eval.{function_named, is_name, fit_at, program, fitted_outcome, EntersNone, AreFormed};
 ghost use Rattle.bk_mean.specs.Seen.{seen_outcome};
@@ -14,7 +15,7 @@ use crate::ready::Ready;
 use crate::symbols::{Callee, Symbols};
 use crate::turn::Next;
 use crate::{EvalError, Outcome};
-use bk_func::{Func, Package, Sig, fit};
+use bk_func::{Func, Package, Sig, TRAP_DIVIDE, TRAP_EXIT, TRAP_SHIFT, TRAP_STACK, fit};
 use bk_ops::Target;
 use std::alloc::{AllocError, Global};
 
@@ -88,11 +89,10 @@ fn run(
     ensures meant { IfOk result (λ r. AreFormed pkg.now → (seen_outcome r.0, r.1.items) ≡ meaning (program pkg.now target frames.now) place args.now window.now stack bound) }
     ensures none_entered { IfOk result (λ r. EntersNone bound stack (slice_index frames.now place) → (seen_outcome r.0, r.1.items) ≡ meaning (program pkg.now target frames.now) place args.now window.now stack bound) }
 {
-    let sig = &pkg.funcs[place].sig;
+    let func = &pkg.funcs[place];
     let symbols = Symbols::new(alloc, pkg)?;
     let mut readies = none_ready(alloc, pkg.funcs.len())?;
-    let mut hand = Vec::with_capacity(alloc, args.len())?;
-    push_fitted(&mut hand, target, &sig.args, args)?;
+    let hand = fit_args(alloc, target, &func.sig, args)?;
     let mut machine = Machine {
         alloc,
         target,
@@ -112,9 +112,18 @@ fn run(
         &mut readies,
         &mut machine,
     )?;
-    let outcome = fit_outcome(alloc, target, sig, outcome)?;
+    let told = fit_outcome(alloc, target, &func.sig, outcome)?;
     let Machine { window, .. } = machine;
-    Ok((outcome, window))
+    Ok((told, window))
+}
+
+/// The arguments, each modulo 2 to the width of its type.
+fn fit_args(alloc: Global, target: Target, sig: &Sig, args: &[u64]) -> Result<Vec<u64>, AllocError>
+    ensures { IfOk result (λ fitted. fitted.items ≡ meant_fitted target sig.now.args args.now) }
+{
+    let mut fitted = Vec::with_capacity(alloc, args.len())?;
+    push_fitted(&mut fitted, target, &sig.args, args)?;
+    Ok(fitted)
 }
 
 /// The same with each result modulo 2 to the width of its type.
@@ -225,9 +234,9 @@ fn begin_named(
     ensures calls { IfOk result (λ trap. Calls machine.old.target pkg.now frames.now stack callee on_words readies.old.items readies.new.items (held machine.old) (held machine.new) trap) }
 {
     match callee {
-        Callee::PanicDivide => Ok(Some(3)),
-        Callee::PanicShift => Ok(Some(4)),
-        Callee::Missing => Ok(Some(6)),
+        Callee::PanicDivide => Ok(Some(TRAP_DIVIDE)),
+        Callee::PanicShift => Ok(Some(TRAP_SHIFT)),
+        Callee::Missing => Ok(Some(TRAP_EXIT)),
         Callee::Func(place) => begin(
             alloc, pkg, frames, place, stack, symbols, readies, machine, on_words,
         ),
@@ -252,12 +261,12 @@ fn begin(
     ensures starts { IfOk result (λ trap. place < length pkg.now.funcs → Starts machine.old.target pkg.now frames.now place stack on_words readies.old.items readies.new.items (held machine.old) (held machine.new) trap) }
 {
     let Some(func) = pkg.funcs.get(place) else {
-        return Ok(Some(6));
+        return Ok(Some(TRAP_EXIT));
     };
     let have = machine.stack(stack);
     let frame = frame_of(frames, place);
     if have < frame {
-        return Ok(Some(5));
+        return Ok(Some(TRAP_STACK));
     }
     make_ready(alloc, symbols, func, readies, place)?;
     open(place, func, readies, have - frame, on_words, machine)?;

@@ -1,5 +1,5 @@
 // Runs: calls that are under way, one upon the other.
-ghost use Rattle.std.specs.Prelude.{◌≡◌, ◌≤◌, ◌↔◌, IfOk, OnOk, IsTrue, length};
+ghost use Rattle.std.specs.Prelude.{◌≡◌, ◌+◌, ◌≤◌, ◌++◌, ◌↔◌, IfOk, OnOk, IsTrue, length, replicate};
 ghost use Rattle.bk_mean.specs.Running.{held, keep_all, kept_number as meant_kept, stack_left, top, Advanced, Begun, Ended, Moved, MovesOn, TakesWords};
 
 use crate::fit::fitted;
@@ -9,7 +9,7 @@ use crate::step::CallWords;
 use crate::symbols::Callee;
 use crate::turn::{Next, Scene, go_on, put};
 use crate::words::{Words, push_words};
-use bk_func::{Func, Package, Sig};
+use bk_func::{Func, Package, TRAP_EXIT};
 use bk_ops::{Family, Target};
 use std::alloc::{AllocError, Global};
 
@@ -77,13 +77,7 @@ impl Machine {
         ensures begun { OnOk result (Begun func (length ready.now.values.items) stack (held self.old) (held self.new)) }
     {
         let base = self.numbers.len();
-        let end = base
-            .checked_add(ready.values.len())
-            .and_then(|end| end.checked_add(1));
-        let Some(end) = end else {
-            return Err(AllocError);
-        };
-        self.numbers.resize(end, 0)?;
+        push_zeros(&mut self.numbers, ready.values.len())?;
         self.numbers.extend_from_slice(&self.hand)?;
         let words = CallWords {
             out: Words::new(self.alloc),
@@ -160,6 +154,21 @@ impl Machine {
     }
 }
 
+/// Appends a 0 for each of so many values, and one more.
+fn push_zeros(numbers: &mut Vec<u64>, values: usize) -> Result<(), AllocError>
+    ensures { OnOk result (numbers.new.items ≡ numbers.old.items ++ replicate (values + 1) 0) }
+{
+    let end = numbers
+        .len()
+        .checked_add(values)
+        .and_then(|end| end.checked_add(1));
+    let Some(end) = end else {
+        return Err(AllocError);
+    };
+    numbers.resize(end, 0)?;
+    Ok(())
+}
+
 /// Goes on with a call until its block is left.
 #[allow(clippy::too_many_arguments)]
 fn go(
@@ -174,10 +183,10 @@ fn go(
     ensures { IfOk result (λ next. Moved target pkg.now readies.now call.old call.new (record { window = window.old.items; hand = hand.old.items; numbers = numbers.old.items }) (record { window = window.new.items; hand = hand.new.items; numbers = numbers.new.items }) next) }
 {
     let (Some(func), Some(Some(ready))) = (pkg.funcs.get(call.func), readies.get(call.func)) else {
-        return Ok(Next::Trap(6));
+        return Ok(Next::Trap(TRAP_EXIT));
     };
     if call.base > numbers.len() {
-        return Ok(Next::Trap(6));
+        return Ok(Next::Trap(TRAP_EXIT));
     }
     let next = go_in(target, func, ready, call, window, hand, numbers)?;
     Ok(next)

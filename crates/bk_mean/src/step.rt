@@ -19,7 +19,7 @@ use crate::prepare::without_memory;
 use crate::ready::ReadyValue;
 use crate::role::{Effect, Origin, effect_of, natural, origin_of};
 use crate::words::Words;
-use bk_func::{Aux, Value};
+use bk_func::{Aux, TRAP_BOUNDS, TRAP_NIL, Value};
 use bk_num::{load_in, store_in, trunc};
 use bk_ops::{ArmOp, Family, Op, RvOp, Target, Ty, size};
 use std::alloc::AllocError;
@@ -173,7 +173,7 @@ fn check(ready: &ReadyValue, place: usize, target: Target, numbers: &mut [u64]) 
     let number = arg(numbers, ready.args.as_slice(), 0);
     set(numbers, place, number);
     if trunc(word_bits(target), number) == 0 {
-        After::Trap(1)
+        After::Trap(TRAP_NIL)
     } else {
         After::On
     }
@@ -221,7 +221,7 @@ fn act(
         Effect::Store => Ok(store(value, target, first, second, window)),
         Effect::Zeros => Ok(zeros(value, target, first, window)),
         Effect::Move => Ok(copy(value, target, first, second, window)),
-        Effect::PanicBounds => Ok(After::Trap(2)),
+        Effect::PanicBounds => Ok(After::Trap(TRAP_BOUNDS)),
         Effect::OutWord => {
             words.out.set(natural(value.int), first)?;
             Ok(After::On)

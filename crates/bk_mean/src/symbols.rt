@@ -10,14 +10,9 @@ ghost use Rattle.bk_mean.specs.Symbols.{IsNaming, callee_found, callee_of, start
 use crate::memory::DATA_BASE;
 use crate::number::at;
 use crate::places::first_places;
-use bk_func::{Aux, Func, Package, Var};
+use bk_func::{Aux, Func, PANIC_DIVIDE, PANIC_SHIFT, Package, Var};
 use std::alloc::{AllocError, Global};
 use std::collections::BTreeMap;
-
-/// The names of the functions that a division and a shift call where their check fails.
-const PANIC_DIVIDE: u32 = 4_294_967_294;
-
-const PANIC_SHIFT: u32 = 4_294_967_295;
 
 /// What is called.
 #[derive(Clone, Copy)]

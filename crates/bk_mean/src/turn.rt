@@ -12,7 +12,7 @@ use crate::ready::{Edge, Ready, ReadyBlock, ReadyValue};
 use crate::step::{After, CallWords, Given, set, step};
 use crate::symbols::Callee;
 use crate::words::push_words;
-use bk_func::{Block, Func, Kind, Sig};
+use bk_func::{Block, Func, Kind, Sig, TRAP_EXIT};
 use bk_ops::Target;
 use std::alloc::AllocError;
 
@@ -51,11 +51,11 @@ pub(crate) fn go_on(
     let ready = scene.ready;
     let (Some(block), Some(course)) = (func.blocks.get(call.block), ready.blocks.get(call.block))
     else {
-        return Ok(Next::Trap(6));
+        return Ok(Next::Trap(TRAP_EXIT));
     };
     let values = ready.values.len();
     if numbers.len() <= values {
-        return Ok(Next::Trap(6));
+        return Ok(Next::Trap(TRAP_EXIT));
     }
     let (numbers, args) = numbers.split_at_mut(values + 1);
     let given = Given {
@@ -77,12 +77,12 @@ fn run_block(
     window: &mut Vec<u8>,
     hand: &mut Vec<u64>,
 ) -> Result<Next, AllocError>
-    requires { given.target ≡ scene.target }
-    ensures { IfOk result (λ next. Ran scene.entry.target scene.entry.func.now scene.entry.ready.now block.now course.now given.entry.args.now (record { call = call.old; numbers = numbers.old; hand = hand.old.items }) (record { call = call.new; numbers = numbers.new; hand = hand.new.items }) window.old.items window.new.items next) }
+    ensures { IfOk result (λ next. Ran given.entry.target scene.entry.func.now scene.entry.ready.now block.now course.now given.entry.args.now (record { call = call.old; numbers = numbers.old; hand = hand.old.items }) (record { call = call.new; numbers = numbers.new; hand = hand.new.items }) window.old.items window.new.items next) }
 {
     let ready = scene.ready;
     let after = turns(block, course, &ready.values, call, given, numbers, window)?;
-    follow(after, scene, block, course, call, numbers, hand)
+    let next = follow(after, scene, block, course, call, numbers, hand)?;
+    Ok(next)
 }
 
 /// Goes where what came after the last value leads.
@@ -188,7 +188,7 @@ fn begin_call(
     ensures { IfOk result (λ next. Begins (slice_get values.now call.now.called_by) (record { call = call.now; numbers = numbers.now; hand = hand.old.items }) (record { call = call.now; numbers = numbers.now; hand = hand.new.items }) next) }
 {
     let Some(ready) = values.get(call.called_by) else {
-        return Ok(Next::Trap(6));
+        return Ok(Next::Trap(TRAP_EXIT));
     };
     hand.clear();
     push_numbers(hand, numbers, without_memory(ready.args.as_slice()))?;
@@ -223,7 +223,7 @@ fn leave(
             take_results(scene, course, call, numbers, hand)?;
             Ok(Next::Return)
         }
-        Kind::Exit => Ok(Next::Trap(6)),
+        Kind::Exit => Ok(Next::Trap(TRAP_EXIT)),
     }
 }
 
@@ -238,7 +238,7 @@ fn cross(
     ensures { IfOk result (λ next. Crosses ready.now edge.block edge.place (record { call = call.old; numbers = numbers.old; hand = hand.old.items }) (record { call = call.new; numbers = numbers.new; hand = hand.new.items }) next) }
 {
     match edge.block {
-        None => Ok(Next::Trap(6)),
+        None => Ok(Next::Trap(TRAP_EXIT)),
         Some(block) => enter(ready, block, edge.place, call, numbers, hand),
     }
 }
@@ -255,7 +255,7 @@ fn enter(
     ensures { IfOk result (λ next. Enters ready.now block edge (slice_get ready.now.blocks.items block) (record { call = call.old; numbers = numbers.old; hand = hand.old.items }) (record { call = call.new; numbers = numbers.new; hand = hand.new.items }) next) }
 {
     let Some(course) = ready.blocks.get(block) else {
-        return Ok(Next::Trap(6));
+        return Ok(Next::Trap(TRAP_EXIT));
     };
     hand.clear();
     take_phis(
