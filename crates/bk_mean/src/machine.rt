@@ -77,8 +77,7 @@ impl Machine {
         ensures begun { OnOk result (Begun func (length ready.now.values.items) stack (held self.old) (held self.new)) }
     {
         let base = self.numbers.len();
-        push_zeros(&mut self.numbers, ready.values.len())?;
-        self.numbers.extend_from_slice(&self.hand)?;
+        push_frame(&mut self.numbers, ready.values.len(), &self.hand)?;
         let words = CallWords {
             out: Words::new(self.alloc),
             back: Words::new(self.alloc),
@@ -152,6 +151,15 @@ impl Machine {
             &self.hand,
         );
     }
+}
+
+/// Appends the numbers of a call: a 0 for each of so many values and one more, and its arguments.
+fn push_frame(numbers: &mut Vec<u64>, values: usize, args: &[u64]) -> Result<(), AllocError>
+    ensures { OnOk result (numbers.new.items ≡ numbers.old.items ++ (replicate (values + 1) 0 ++ args.now)) }
+{
+    push_zeros(numbers, values)?;
+    numbers.extend_from_slice(args)?;
+    Ok(())
 }
 
 /// Appends a 0 for each of so many values, and one more.
