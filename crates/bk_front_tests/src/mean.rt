@@ -443,16 +443,16 @@ fn loads_come_in_order(rt: HostRuntime) -> Result<(), Fail> {
     Ok(())
 }
 
-// On arm a call passes numbers of 64 bits in two words each: g gives the halves of its argument the other
-// way round.
+// Words are passed by their places, also where they are not written in order: g gives its arguments the
+// other way round.
 #[test]
 fn calls_pass_words(rt: HostRuntime) -> Result<(), Fail> {
     let outer: [Line<'_>; 11] = [
         (1, "InitMem", Ty::Mem, &[], 0, NONE),
         (2, "ARGWORD", Ty::Uint32, &[], 0, NONE),
         (3, "ARGWORD", Ty::Uint32, &[], 1, NONE),
-        (4, "OUTWORD", Ty::Mem, &[2, 1], 0, NONE),
-        (5, "OUTWORD", Ty::Mem, &[3, 4], 1, NONE),
+        (4, "OUTWORD", Ty::Mem, &[3, 1], 1, NONE),
+        (5, "OUTWORD", Ty::Mem, &[2, 4], 0, NONE),
         (6, "CALL", Ty::Mem, &[5], 0, Aux::Sym(1)),
         (7, "RESWORD", Ty::Uint32, &[6], 2, NONE),
         (8, "RESWORD", Ty::Uint32, &[6], 3, NONE),
@@ -469,18 +469,82 @@ fn calls_pass_words(rt: HostRuntime) -> Result<(), Fail> {
     ];
     let first: [Part<'_>; 1] = [(1, Kind::Ret, Some(10), &[], &[], &outer)];
     let second: [Part<'_>; 1] = [(1, Kind::Ret, Some(5), &[], &[], &inner)];
-    let types = [Ty::Int64];
+    let types = [Ty::Uint32, Ty::Uint32];
     let mut funcs = Vec::new(rt.alloc());
     funcs.push(func(rt.alloc(), 0, &types, &types, &first)?)?;
     funcs.push(func(rt.alloc(), 1, &types, &types, &second)?)?;
     let pkg = package(rt.alloc(), funcs)?;
-    for (number, end) in [
-        (1, "Returned([4294967296]) []"),
-        (0x0123_4567_89ab_cdef, "Returned([9920249030613615975]) []"),
-    ] {
-        let told = run(rt.alloc(), &pkg, Target::Arm, &[number], &[], 65_536, 10)?;
-        assert_eq!(rt; told.as_str(), end);
-    }
+    let told = run(rt.alloc(), &pkg, Target::Arm, &[1, 2], &[], 65_536, 10)?;
+    assert_eq!(rt; told.as_str(), "Returned([2, 1]) []");
+    Ok(())
+}
+
+// Eight words of arguments and of results are passed in registers, a ninth is written. Words are passed
+// whole, and cut at the end: 300 is 44 in a byte.
+#[test]
+fn calls_pass_registers(rt: HostRuntime) -> Result<(), Fail> {
+    let outer: [Line<'_>; 9] = [
+        (1, "InitMem", Ty::Mem, &[], 0, NONE),
+        (2, "ARGREG", Ty::Uint64, &[], 0, NONE),
+        (3, "Const64", Ty::Uint64, &[], 300, NONE),
+        (4, "OUTWORD", Ty::Mem, &[3, 1], 8, NONE),
+        (
+            5,
+            "CALLREGS",
+            Ty::Mem,
+            &[2, 2, 2, 2, 2, 2, 2, 3, 4],
+            0,
+            Aux::Sym(1),
+        ),
+        (6, "RESREG", Ty::Uint64, &[5], 0, NONE),
+        (7, "RESREG", Ty::Uint64, &[5], 1, NONE),
+        (8, "RESWORD", Ty::Uint64, &[5], 9, NONE),
+        (9, "RETREGS", Ty::Mem, &[6, 7, 8, 5], 0, NONE),
+    ];
+    let inner: [Line<'_>; 5] = [
+        (1, "InitMem", Ty::Mem, &[], 0, NONE),
+        (2, "ARGREG", Ty::Uint64, &[], 0, NONE),
+        (3, "ARGREG", Ty::Uint64, &[], 7, NONE),
+        (4, "ARGWORD", Ty::Uint64, &[], 8, NONE),
+        (5, "RETREGS", Ty::Mem, &[3, 4, 1], 0, NONE),
+    ];
+    let first: [Part<'_>; 1] = [(1, Kind::Ret, Some(9), &[], &[], &outer)];
+    let second: [Part<'_>; 1] = [(1, Kind::Ret, Some(5), &[], &[], &inner)];
+    let mut funcs = Vec::new(rt.alloc());
+    let results = [Ty::Uint8, Ty::Uint64, Ty::Uint16];
+    funcs.push(func(rt.alloc(), 0, &[Ty::Uint64], &results, &first)?)?;
+    let args = [Ty::Uint8; 9];
+    funcs.push(func(rt.alloc(), 1, &args, &[Ty::Uint8, Ty::Uint8], &second)?)?;
+    let pkg = package(rt.alloc(), funcs)?;
+    let told = run(rt.alloc(), &pkg, Target::Riscv64, &[7], &[], 65_536, 10)?;
+    assert_eq!(rt; told.as_str(), "Returned([44, 300, 300]) []");
+    Ok(())
+}
+
+// A number is cut where a result or an argument takes it: g gives 300 as a byte, and f as a word.
+#[test]
+fn results_are_cut(rt: HostRuntime) -> Result<(), Fail> {
+    let outer: [Line<'_>; 5] = [
+        (1, "InitMem", Ty::Mem, &[], 0, NONE),
+        (2, "Const64", Ty::Uint64, &[], 300, NONE),
+        (3, "StaticLECall", Ty::Tuple, &[2, 1], 0, Aux::Sym(1)),
+        (4, "SelectN", Ty::Uint8, &[3], 0, NONE),
+        (5, "MakeResult", Ty::Tuple, &[4, 2, 1], 0, NONE),
+    ];
+    let inner: [Line<'_>; 3] = [
+        (1, "InitMem", Ty::Mem, &[], 0, NONE),
+        (2, "Arg", Ty::Uint16, &[], 0, Aux::Arg(0)),
+        (3, "MakeResult", Ty::Tuple, &[2, 1], 0, NONE),
+    ];
+    let first: [Part<'_>; 1] = [(1, Kind::Ret, Some(5), &[], &[], &outer)];
+    let second: [Part<'_>; 1] = [(1, Kind::Ret, Some(3), &[], &[], &inner)];
+    let mut funcs = Vec::new(rt.alloc());
+    let results = [Ty::Uint64, Ty::Uint8];
+    funcs.push(func(rt.alloc(), 0, &[], &results, &first)?)?;
+    funcs.push(func(rt.alloc(), 1, &[Ty::Uint16], &[Ty::Uint8], &second)?)?;
+    let pkg = package(rt.alloc(), funcs)?;
+    let told = run(rt.alloc(), &pkg, Target::Riscv64, &[], &[], 65_536, 10)?;
+    assert_eq!(rt; told.as_str(), "Returned([44, 44]) []");
     Ok(())
 }
 

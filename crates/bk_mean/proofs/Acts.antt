@@ -1,6 +1,7 @@
 -- What memory values do, from what their calls say of the window.
-use Rattle.std.proofs.Common.{◌≡◌, ℕ, ◌+◌, ◌%◌, ◌^◌, refl, ap, sym, ◌∙◌, List, Option, Some, None, Bool, true, false}
-use Rattle.std.specs.Prelude.{if◌then◌else◌, ◌==◌, slice_range, slice_index, unwrap_or, ◌-◌}
+use Rattle.std.proofs.Common.{◌≡◌, ℕ, ◌+◌, ◌%◌, ◌^◌, refl, ap, sym, ◌∙◌, List, map, Option, Some, None, Bool, true, false}
+use Rattle.std.specs.Prelude.{if◌then◌else◌, ◌==◌, slice_range, slice_index, unwrap_or, ◌-◌, Vec}
+use Rattle.std.specs.declared.alloc.Global.{Global}
 use Rattle.std.proofs.Math.Path.{fun_ext}
 use Rattle.bk_num.specs.Word.{residue}
 use Rattle.bk_num.specs.Bytes.{is_within, number, load_in, store_in, written}
@@ -10,8 +11,8 @@ use Rattle.bk_ops.specs.Types.{word_width}
 use Rattle.bk_ops.specs.declared.types.Target.{Target}
 use Rattle.bk_func.specs.Records.{ValueRecord}
 use Rattle.bk_func.specs.Numbers.{Program, loaded, natural, address_by, load_size, read_at}
-use Rattle.bk_func.specs.Effects.{store, zeros, move, out_word, ret_word}
-use Rattle.bk_func.specs.Meaning.{World, Run, gives, stops, wild, Activation, Calls, put, with_window, moved, store_size, stored_of, done_by, fault_by}
+use Rattle.bk_func.specs.Effects.{store, zeros, move, out_word, ret_word, ret_words}
+use Rattle.bk_func.specs.Meaning.{World, Run, gives, stops, wild, Activation, Calls, put, without_memory, with_window, moved, store_size, stored_of, done_by, fault_by}
 use Rattle.bk_mean.specs.Machine.{copy_fault}
 use Rattle.bk_mean.specs.declared.step.After.{After}
 use Rattle.bk_mean.specs.declared.step.CallWords.{CallWords}
@@ -116,20 +117,29 @@ act_move p m calls v a w t first second old new after h f s e =
     run x f s = if natural v.int == 0 then gives a (seeing w old) else moved (number_at old (natural v.int) (s % 2 ^ word_width x)) (natural v.int) (f % 2 ^ word_width x) (s % 2 ^ word_width x) a (seeing w old)
 
 pub act_out : (p : Program) (m : ℕ → ℕ) (calls : Calls) (v : ValueRecord) (a : Activation) (w : World) (old new : CallWords) (place first : ℕ) → place ≡ natural v.int → first ≡ m (slice_index v.args 0) →
-    ((k : ℕ) → word_in new.out k ≡ put (word_in old.out) place first k) → new.back ≡ old.back → done_by (Some out_word) calls p m v (with_words a old) w ≡ gives (with_words a new) w
-act_out p m calls v a w old new place first h f s b =
+    ((k : ℕ) → word_in new.out k ≡ put (word_in old.out) place first k) → new.back ≡ old.back → new.regs ≡ old.regs → done_by (Some out_word) calls p m v (with_words a old) w ≡ gives (with_words a new) w
+act_out p m calls v a w old new place first h f s b r =
     ap (λ k. gives (record (with_words a old) { out = put (word_in old.out) k (m (slice_index v.args 0)) }) w) (sym h)
     ∙ ap (λ n. gives (record (with_words a old) { out = put (word_in old.out) place n }) w) (sym f)
     ∙ ap (λ (g : ℕ → ℕ). gives (record (with_words a old) { out = g }) w) (sym (fun_ext s))
     ∙ ap (λ (x : Words). gives (record (with_words a old) { out = word_in new.out; back = word_in x }) w) (sym b)
+    ∙ ap (λ (x : Vec ℕ Global). gives (record (with_words a new) { regs = x.items }) w) (sym r)
 
 pub act_ret : (p : Program) (m : ℕ → ℕ) (calls : Calls) (v : ValueRecord) (a : Activation) (w : World) (old new : CallWords) (place first : ℕ) → place ≡ natural v.int → first ≡ m (slice_index v.args 0) →
-    ((k : ℕ) → word_in new.back k ≡ put (word_in old.back) place first k) → new.out ≡ old.out → done_by (Some ret_word) calls p m v (with_words a old) w ≡ gives (with_words a new) w
-act_ret p m calls v a w old new place first h f s b =
+    ((k : ℕ) → word_in new.back k ≡ put (word_in old.back) place first k) → new.out ≡ old.out → new.regs ≡ old.regs → done_by (Some ret_word) calls p m v (with_words a old) w ≡ gives (with_words a new) w
+act_ret p m calls v a w old new place first h f s b r =
     ap (λ k. gives (record (with_words a old) { back = put (word_in old.back) k (m (slice_index v.args 0)) }) w) (sym h)
     ∙ ap (λ n. gives (record (with_words a old) { back = put (word_in old.back) place n }) w) (sym f)
     ∙ ap (λ (g : ℕ → ℕ). gives (record (with_words a old) { back = g }) w) (sym (fun_ext s))
     ∙ ap (λ (x : Words). gives (record (with_words a old) { out = word_in x; back = word_in new.back }) w) (sym b)
+    ∙ ap (λ (x : Vec ℕ Global). gives (record (with_words a new) { regs = x.items }) w) (sym r)
+
+pub act_ret_words : (p : Program) (m : ℕ → ℕ) (calls : Calls) (v : ValueRecord) (a : Activation) (w : World) (old new : CallWords) → new.regs.items ≡ map m (without_memory v.args) → new.out ≡ old.out → new.back ≡ old.back →
+    done_by (Some ret_words) calls p m v (with_words a old) w ≡ gives (with_words a new) w
+act_ret_words p m calls v a w old new r s b =
+    ap (λ xs. gives (record (with_words a old) { regs = xs }) w) (sym r)
+    ∙ ap (λ (x : Words). gives (record (with_words a old) { regs = new.regs.items; out = word_in x }) w) (sym s)
+    ∙ ap (λ (x : Words). gives (record (with_words a old) { regs = new.regs.items; out = word_in new.out; back = word_in x }) w) (sym b)
 
 -- loads
 

@@ -9,36 +9,37 @@ use Rattle.bk_ops.specs.declared.family.Family.{Family}
 use Rattle.bk_ops.specs.declared.family.Family.TheVariants as op
 use Rattle.bk_func.specs.Records.{SigRecord, ValueRecord, BlockRecord, FuncRecord, PackageRecord}
 use Rattle.bk_func.specs.Edits.{block_of}
-use Rattle.bk_func.specs.Words.{all_words, numbers_at, fitted}
-use Rattle.bk_func.specs.Numbers.{Program, numbers, room, values_of, natural, is_mem}
+use Rattle.bk_func.specs.Numbers.{Program, numbers, room, values_of, is_mem}
 use Rattle.bk_func.specs.Effects.{Effect, call, call_words, pass, effect_of, has_effect}
-use Rattle.bk_func.specs.Meaning.{Outcome, World, Run, gives, stops, trapped, wild, Activation, first_state, entered, fitted_run, run, put, with_given, words_of_call, in_state, sig_of, symbol_of}
+use Rattle.bk_func.specs.Symbols.{sig_of, symbol_of}
+use Rattle.bk_func.specs.Meaning.{Outcome, World, Run, gives, stops, trapped, wild, Activation, first_state, entered, run, put, with_given, in_state}
 use Rattle.bk_func.specs.declared.form.FormKind.TheVariants.{Missing}
 use Rattle.bk_func.specs.Form.Text.{HasBlock, HasValue}
 use Rattle.bk_func.proofs.Faults.{In}
 use Rattle.bk_func.proofs.Flat.{one}
 use Rattle.bk_mean.specs.Numbering.{place_in}
-use Rattle.bk_mean.specs.Ready.{IsReadyValue, is_on_words}
+use Rattle.bk_mean.specs.Ready.{IsReadyValue, kept_by}
 use Rattle.bk_mean.specs.Seen.{word_in}
 use Rattle.bk_mean.specs.Turned.{Stage}
-use Rattle.bk_mean.specs.Running.{Held, Store, stored, keep_all, given_back, GivesTo, GivesBack, Ended, top, Moved, Advanced, none, on, back}
+use Rattle.bk_mean.specs.Running.{Held, Store, stored, keep_all, Ended, top, Moved, Advanced, none, on, back}
 use Rattle.bk_mean.specs.declared.machine.Activation.{Activation as Active}
 use Rattle.bk_mean.specs.declared.ready.Ready.{Ready}
-use Rattle.bk_mean.specs.declared.ready.ReadyValue.{ReadyValue}
+use Rattle.bk_mean.specs.declared.ready.Kept.{Kept}
 use Rattle.bk_mean.specs.declared.step.CallWords.{CallWords}
 use Rattle.bk_mean.specs.declared.turn.Next.{Next}
 use Rattle.bk_mean.specs.declared.turn.Next.TheVariants as next
-use Rattle.bk_mean.proofs.Named.{to_contains, got_in, found_block}
+use Rattle.bk_mean.proofs.Named.{to_contains, got_in, found_block, found_value}
 use Rattle.bk_mean.proofs.Formed.{Sound, sound}
 use Rattle.bk_mean.proofs.Arranged.{due_level, due_class, values_at}
 use Rattle.bk_mean.proofs.Along.{IsShown}
 use Rattle.bk_mean.proofs.Knowing.{IsResultOf}
+use Rattle.bk_mean.proofs.Filling.{number_given}
 use Rattle.bk_mean.proofs.Tabled.{table, place_apart, place_below, ready_at, ready_there}
-use Rattle.bk_mean.proofs.Keeping.{keep_length, keep_other, keep_own, keep_within}
+use Rattle.bk_mean.proofs.Keeping.{kept_given, keep_length, keep_other, keep_own, keep_within}
 use Rattle.bk_mean.proofs.Doing.{Order, IsAt, put_there, returns_so}
 use Rattle.bk_mean.proofs.Resuming.{Frame, gave, inside, resume, return_run, run_enters, one_acts}
 use Rattle.bk_mean.proofs.Stacking.{KeepsResults, Learnt, Sits, Suspended, WordsTaken, IsWaiting, Stacked, bottom, more, Within, Heads, Calling, ground}
-use Rattle.bk_mean.proofs.Moving.{drop_all, take_all, Returned, Yields, moved_so, is_call, is_call_words, not_on_words, on_words}
+use Rattle.bk_mean.proofs.Moving.{drop_all, take_all, Returned, Yields, moved_so}
 
 -- lists with one more at their end
 
@@ -79,18 +80,14 @@ empty_stays t p readies _ _ _ (on a b cs c d x i j m n) k = absurd (snoc_some cs
 empty_stays t p readies _ _ _ (back a m b e cs c d x i j mv en w rest) k = absurd (snoc_some cs c (sym i ∙ k))
 
 -- a call that waits, when what it called has returned
-module _ (p : Program) (readies : List (Option Ready)) (n : ℕ) (fr : Frame) (c : Active) (front args : List ℕ) (g : FuncRecord) (given : List ℕ) (w : IsWaiting p readies n fr c front args g given) (rs : List ℕ) (y : World) where
+module _ (p : Program) (readies : List (Option Ready)) (n : ℕ) (fr : Frame) (c : Active) (front args : List ℕ) (g : FuncRecord) (w : IsWaiting p readies n fr c front args g) (rs : List ℕ) (y : World) where
   abbrev its : Sits p readies fr.fuel fr.place fr.func fr.block w.waits.m w.waits.pre (fr.value ∷ fr.rest) c front args w.words w.window fr.act w.world
   its = w.waits.sits
 
   its_sound : Sound its.learnt.set fr.func
   its_sound = sound its.learnt.set fr.func its.learnt.formed
 
-  -- what the value has of the call
-  abbrev words_so : List ℕ
-  words_so = words_of_call p.target (sig_of p.pkg (symbol_of fr.value.aux)) (numbers_at p.target (sig_of p.pkg (symbol_of fr.value.aux)).args fr.act.out 0) rs
-
-  pub record After_call (known : List ℕ) : Type 0 where
+  pub record After_call : Type 0 where
     pub act : Activation
     pub runs : (x : World) → one (gave rs y) p fr.func fr.value fr.act x ≡ gives act y
     pub env_args : act.env.args ≡ fr.act.env.args
@@ -98,37 +95,38 @@ module _ (p : Program) (readies : List (Option Ready)) (n : ℕ) (fr : Frame) (c
     pub shown : IsShown act y
     pub out : act.out ≡ word_in c.words.out
     pub back : act.back ≡ word_in c.words.back
+    pub regs : act.regs ≡ c.words.regs.items
     pub stack : act.stack ≡ fr.act.stack
-    pub gives_it : act.env.given fr.value.id ≡ known
+    pub gives_it : act.env.given fr.value.id ≡ rs
 
-  put_given : (h : ℕ → List ℕ) (m : ℕ) (xs : List ℕ) → put h m xs m ≡ xs
-  put_given h m xs = put_there h m xs
-
-  after_plain : effect_of fr.value.op.family fr.value.ty ≡ Some call → c.words ≡ w.words → After_call rs
-  after_plain e k = record {
-    act = in_state fr.value.id (with_given fr.act fr.value.id rs) y;
-    runs = λ x. one_acts (gave rs y) p fr.func fr.value fr.act x call e;
-    env_args = refl;
-    memory = refl;
-    shown = put_there fr.act.env.windows fr.value.id y.window;
-    out = its.at.out ∙ ap (λ (z : CallWords). word_in z.out) (sym k);
-    back = its.at.back ∙ ap (λ (z : CallWords). word_in z.back) (sym k);
-    stack = refl;
-    gives_it = put_there fr.act.env.given fr.value.id rs;
-  }
-
-  after_words : effect_of fr.value.op.family fr.value.ty ≡ Some call_words → ((k : ℕ) → word_in c.words.out k ≡ 0) → c.words.back ≡ w.words.back → After_call words_so
-  after_words e k b = record {
-    act = in_state fr.value.id (record (with_given fr.act fr.value.id words_so) { out = λ k. 0 }) y;
-    runs = λ x. one_acts (gave rs y) p fr.func fr.value fr.act x call_words e;
-    env_args = refl;
-    memory = refl;
-    shown = put_there fr.act.env.windows fr.value.id y.window;
-    out = sym (fun_ext k);
-    back = its.at.back ∙ ap word_in (sym b);
-    stack = refl;
-    gives_it = put_there fr.act.env.given fr.value.id words_so;
-  }
+  pub after_call : After_call
+  after_call = go w.taken
+    where
+      go : WordsTaken fr w.words c.words → After_call
+      go (inl (e, k)) = record {
+        act = in_state fr.value.id (with_given fr.act fr.value.id rs) y;
+        runs = λ x. one_acts (gave rs y) p fr.func fr.value fr.act x call e;
+        env_args = refl;
+        memory = refl;
+        shown = put_there fr.act.env.windows fr.value.id y.window;
+        out = its.at.out ∙ ap (λ (z : CallWords). word_in z.out) (sym k);
+        back = its.at.back ∙ ap (λ (z : CallWords). word_in z.back) (sym k);
+        regs = its.at.regs ∙ ap (λ (z : CallWords). z.regs.items) (sym k);
+        stack = refl;
+        gives_it = put_there fr.act.env.given fr.value.id rs;
+      }
+      go (inr (e, k, b, l)) = record {
+        act = in_state fr.value.id (record (with_given fr.act fr.value.id rs) { out = λ k. 0 }) y;
+        runs = λ x. one_acts (gave rs y) p fr.func fr.value fr.act x call_words e;
+        env_args = refl;
+        memory = refl;
+        shown = put_there fr.act.env.windows fr.value.id y.window;
+        out = sym (fun_ext k);
+        back = its.at.back ∙ ap word_in (sym b);
+        regs = its.at.regs ∙ ap (λ (z : Vec ℕ Global). z.items) (sym l);
+        stack = refl;
+        gives_it = put_there fr.act.env.given fr.value.id rs;
+      }
 
   acts : has_effect fr.value ≡ true
   acts = elim w.taken as (λ _. has_effect fr.value ≡ true) [ inl k ↦ ap is_some k.0 | inr k ↦ ap is_some k.0 ]
@@ -144,90 +142,86 @@ module _ (p : Program) (readies : List (Option Ready)) (n : ℕ) (fr : Frame) (c
           go false q = b q
 
   -- the numbers once the results are kept
-  module _ (ks : List (ℕ × ℕ)) (keeps : KeepsResults fr.func fr.block fr.value ks) (known : List ℕ) where
-    abbrev front_then : List ℕ
-    front_then = keep_all 0 ks known front
+  module _ (ks : List Kept) (keeps : KeepsResults fr.func fr.block fr.value ks) where
+    abbrev count : ℕ
+    count = length g.sig.args
 
-    short : (k : ℕ × ℕ) → In k ks → k.1 < length front
+    abbrev front_then : List ℕ
+    front_then = keep_all p.target count 0 ks rs front
+
+    -- what is kept has places among the values
+    pub short : (k : Kept) → In k ks → k.place < length front
     short k i =
         let q = keeps.only k i in
         let l = place_below its.learnt.set fr.func (its.learnt.formed.kinds Missing) fr.block q.0 q.1.0 in
-        let e = ap (λ (z : ℕ × ℕ). z.1) q.2 in
+        let e = ap (λ (z : Kept). z.place) q.2 in
         let m = its.at.long in
         omega (arith, l, e, m)
 
-    kept_there : (u : ValueRecord) → IsResultOf fr.func fr.block fr.value u → table fr.func front_then u.id ≡ slice_index known (natural u.int)
+    kept_there : (u : ValueRecord) → IsResultOf fr.func fr.block fr.value u → table fr.func front_then u.id ≡ number_given p fr.func u rs
     kept_there u q =
         let z : 0 + place_in fr.func u.id ≡ place_in fr.func u.id = omega arith in
         let l = place_below its.learnt.set fr.func (its.learnt.formed.kinds Missing) fr.block u q.0 in
         let m = its.at.long in
         ap (slice_index front_then) (sym z)
-        ∙ keep_own 0 ks known front (natural u.int) (place_in fr.func u.id) one (omega (arith, l, m)) (inl ((natural u.int, place_in fr.func u.id), keeps.all u q, refl))
+        ∙ keep_own p.target count 0 ks rs front (kept_by fr.func u) one (omega (arith, l, m)) (inl (keeps.all u q))
+        ∙ kept_given p fr.func g u fr.value rs its.learnt.places (found_value fr.func its_sound.named fr.block fr.value (slice_index u.args 0) w.waits.stands (sym q.2)) w.sig
       where
-        one : (k : ℕ × ℕ) → In k ks → k.1 ≡ place_in fr.func u.id → k.0 ≡ natural u.int
+        one : (k : Kept) → In k ks → k.place ≡ place_in fr.func u.id → k ≡ kept_by fr.func u
         one k i e = go (keeps.only k i)
           where
-            go : (t : ValueRecord) × IsResultOf fr.func fr.block fr.value t × (k ≡ (natural t.int, place_in fr.func t.id)) → k.0 ≡ natural u.int
+            go : (t : ValueRecord) × IsResultOf fr.func fr.block fr.value t × (k ≡ kept_by fr.func t) → k ≡ kept_by fr.func u
             go (t, r, s) = by (cases_eq t.id u.id)
               where
-                by : (t.id ≡ u.id) ⊎ (t.id ≡ u.id → ⊥) → k.0 ≡ natural u.int
-                by (inl d) = ap (λ (z : ℕ × ℕ). z.0) s ∙ ap (λ (z : ValueRecord). natural z.int) (its_sound.named.same_value fr.block fr.block t u r.0 q.0 d)
-                by (inr d) = absurd (place_apart its.learnt.set fr.func (its.learnt.formed.kinds Missing) fr.block u q.0 t.id d (sym (ap (λ (z : ℕ × ℕ). z.1) s) ∙ e))
+                by : (t.id ≡ u.id) ⊎ (t.id ≡ u.id → ⊥) → k ≡ kept_by fr.func u
+                by (inl d) = s ∙ ap (kept_by fr.func) (its_sound.named.same_value fr.block fr.block t u r.0 q.0 d)
+                by (inr d) = absurd (place_apart its.learnt.set fr.func (its.learnt.formed.kinds Missing) fr.block u q.0 t.id d (sym (ap (λ (z : Kept). z.place) s) ∙ e))
 
     others_stay : (m : ℕ) → ((u : ValueRecord) → IsResultOf fr.func fr.block fr.value u → ¬ (u.id ≡ m)) → table fr.func front_then m ≡ table fr.func front m
-    others_stay m off = keep_other 0 ks known front (place_in fr.func m) apart
+    others_stay m off = keep_other p.target count 0 ks rs front (place_in fr.func m) apart
       where
-        apart : (k : ℕ × ℕ) → In k ks → place_in fr.func m ≢ 0 + k.1
+        apart : (k : Kept) → In k ks → place_in fr.func m ≢ 0 + k.place
         apart k i e =
             let q = keeps.only k i in
-            let z : 0 + k.1 ≡ k.1 = omega arith in
-            place_apart its.learnt.set fr.func (its.learnt.formed.kinds Missing) fr.block q.0 q.1.0 m (λ t. off q.0 q.1 (sym t)) (e ∙ z ∙ ap (λ (z : ℕ × ℕ). z.1) q.2)
+            let z : 0 + k.place ≡ k.place = omega arith in
+            place_apart its.learnt.set fr.func (its.learnt.formed.kinds Missing) fr.block q.0 q.1.0 m (λ t. off q.0 q.1 (sym t)) (e ∙ z ∙ ap (λ (z : Kept). z.place) q.2)
 
     -- the caller goes on behind the call
-    pub back_at : (a : After_call known) (window : List ℕ) → y.window ≡ window →
-        IsAt p fr.func fr.block w.waits.m (ground p fr.func args) (w.waits.pre ++ fr.value ∷ []) (record { numbers = front_then; window = window; words = c.words }) a.act y
-    back_at a window e =
+    pub back_at : (window : List ℕ) → y.window ≡ window →
+        IsAt p fr.func fr.block w.waits.m (ground p args) (w.waits.pre ++ fr.value ∷ []) (record { numbers = front_then; window = window; words = c.words }) after_call.act y
+    back_at window e =
         returns_so p its.learnt.set fr.func fr.block w.waits.m (due_level fr.func fr.block (first_state fr.block w.waits.m)) due_class (values_at fr.block.values its.course.order.items)
         (its.learnt.order c.block fr.block its.course its.block its.its w.waits.m its.arrives) w.waits.pre fr.value fr.rest its.parts w.waits.stands
-        (ground p fr.func args) (record { numbers = front; window = w.window; words = w.words }) (record { numbers = front_then; window = window; words = c.words }) fr.act w.world its.at (gave rs y) a.act y (a.runs w.world) acts selects_not
-        a.env_args a.memory a.shown e a.out a.back (keep_length 0 ks known front) (λ u q. kept_there u q ∙ ap (λ xs. slice_index xs (natural u.int)) (sym a.gives_it)) others_stay
-
--- the place of the numbers of a call behind those below it
-own_rest : (below front args : List ℕ) (base values : ℕ) (all : List ℕ) → all ≡ below ++ (front ++ args) → base ≡ length below → length front ≡ values + 1 → drop (base + values + 1) all ≡ args
-own_rest below front args base values all e b l =
-    let k : base + values + 1 ≡ length (below ++ front) = (let q = length-append below front in omega (arith, b, l, q)) in
-    ap (λ n. drop n all) k ∙ ap (drop (length (below ++ front))) (e ∙ sym (append_assoc below front args)) ∙ drop_all (below ++ front) args
+        (ground p args) (record { numbers = front; window = w.window; words = w.words }) (record { numbers = front_then; window = window; words = c.words }) fr.act w.world its.at (gave rs y) after_call.act y (after_call.runs w.world) acts selects_not
+        after_call.env_args after_call.memory after_call.shown e after_call.out after_call.back after_call.regs (keep_length p.target count 0 ks rs front)
+        (λ u q. kept_there u q ∙ ap (number_given p fr.func u) (sym after_call.gives_it)) others_stay
 
 -- the results of a call go to the call that waits, or end the run
-module _ (p : Program) (readies : List (Option Ready)) (n : ℕ) (r : Run (List ℕ)) (f : FuncRecord) (hand rs : List ℕ) (y : World) (same : rs ≡ fitted p.target f.sig.results hand) (left : y.left ≡ n) where
-  pub gives_back : (frs : List Frame) (cs : List Active) (ns : List ℕ) (args front : List ℕ) (values base : ℕ) (all : List ℕ) (b : Held) → Stacked p readies n frs cs ns f args → r ≡ resume p frs (gives rs y) → b.calls ≡ cs →
-      all ≡ ns ++ (front ++ args) → base ≡ length ns → length front ≡ values + 1 → y.window ≡ b.window → GivesBack p.target readies (top cs) f.sig values base all hand b.numbers b.hand →
+module _ (p : Program) (readies : List (Option Ready)) (n : ℕ) (r : Run (List ℕ)) (f : FuncRecord) (d : Active) (a b : Held) (y : World) (left : y.left ≡ n) (func : slice_get p.pkg.funcs d.func ≡ Some f) where
+  pub gives_back : (frs : List Frame) (cs : List Active) (ns : List ℕ) (rest : List ℕ) → Stacked p readies n frs cs ns f → r ≡ resume p frs (gives a.hand y) → b.calls ≡ cs →
+      a.numbers ≡ ns ++ rest → d.base ≡ length ns → y.window ≡ b.window → Ended p.target p.pkg readies (top cs) d a b →
       (Within p readies n b r) ⊎ ((frs ≡ []) × (cs ≡ []) × (r ≡ gives b.hand y))
-  gives_back _ _ _ args front values base all b (bottom _ _) runs calls nums at long win gave_back = inr (refl, refl, runs ∙ ap (λ xs. gives xs y) (same ∙ sym gave_back))
-  gives_back _ _ _ args front values base all b (more frs cs ns fr c own given g _ stacked its_base waits) runs calls nums at long win gave_back =
-      inl (by_kept (waits.waits.sits.learnt.kept fr.block fr.value waits.waits.stands (how waits.taken)) (ready_there waits.waits.sits.learnt.set fr.func (waits.waits.sits.learnt.formed.kinds Missing) p.pkg waits.waits.sits.ready.values.items waits.waits.sits.learnt.values fr.block fr.value waits.waits.stands))
+  gives_back _ _ _ rest (bottom _) runs calls nums at win ended = inr (refl, refl, runs ∙ ap (λ xs. gives xs y) (sym ended))
+  gives_back _ _ _ rest (more frs cs ns fr c own given g stacked its_base waits) runs calls nums at win ended =
+      inl (by_kept (waits.waits.sits.learnt.kept fr.block fr.value waits.waits.stands (how waits.taken)))
     where
-      how : WordsTaken p fr waits.words c.words f args → (effect_of fr.value.op.family fr.value.ty ≡ Some call) ⊎ (effect_of fr.value.op.family fr.value.ty ≡ Some call_words)
+      how : WordsTaken fr waits.words c.words → (effect_of fr.value.op.family fr.value.ty ≡ Some call) ⊎ (effect_of fr.value.op.family fr.value.ty ≡ Some call_words)
       how (inl k) = inl k.0
       how (inr k) = inr k.0
 
-      to : GivesTo p.target readies c f.sig values base (fitted p.target f.sig.results hand) all b.numbers
-      to = (let P : Option Active → Type 0 = λ z. GivesBack p.target readies z f.sig values base all hand b.numbers b.hand in subst P (snoc_top cs c) gave_back)
+      to : Ended p.target p.pkg readies (Some c) d a b
+      to = (let P : Option Active → Type 0 = λ z. Ended p.target p.pkg readies z d a b in subst P (snoc_top cs c) ended)
 
-      below : take base all ≡ ns ++ (own ++ given)
-      below = ap (λ k. take k all) at ∙ ap (take (length (ns ++ (own ++ given)))) nums ∙ take_all (ns ++ (own ++ given)) (front ++ args)
+      below : take d.base a.numbers ≡ ns ++ (own ++ given)
+      below = ap (λ k. take k a.numbers) at ∙ ap (take (length (ns ++ (own ++ given)))) nums ∙ take_all (ns ++ (own ++ given)) rest
 
-      args_there : drop (base + values + 1) all ≡ args
-      args_there = own_rest (ns ++ (own ++ given)) front args base values all nums at long
-
-      -- what the value has of the call, and the machine for it
-      within : (known : List ℕ) → After_call p readies n fr c own given f args waits rs y known → (ks : List (ℕ × ℕ)) → KeepsResults fr.func fr.block fr.value ks → b.numbers ≡ keep_all c.base ks known (take base all) → Within p readies n b r
-      within known a ks keeps kept = record {
+      by_kept : (ks : Vec Kept Global) × (slice_get waits.waits.sits.ready.kept.items (place_in fr.func fr.value.id) ≡ Some ks) × KeepsResults fr.func fr.block fr.value ks.items → Within p readies n b r
+      by_kept (ks, ks_at, keeps) = record {
         frames = frs;
         calls = cs;
         numbers = ns;
         top = c;
-        front = keep_all 0 ks known own;
+        front = keep_all p.target (length f.sig.args) 0 ks.items a.hand own;
         args = given;
         k = fr.fuel;
         i = fr.place;
@@ -236,10 +230,14 @@ module _ (p : Program) (readies : List (Option Ready)) (n : ℕ) (r : Run (List 
         m = waits.waits.m;
         pre = waits.waits.pre ++ fr.value ∷ [];
         rest = fr.rest;
-        act = a.act;
+        act = (after_call p readies n fr c own given f waits a.hand y).act;
         world = y;
         has_calls = calls;
-        has_numbers = kept ∙ ap (keep_all c.base ks known) below ∙ ap (λ k. keep_all k ks known (ns ++ (own ++ given))) its_base ∙ keep_within ns own given ks known (short p readies n fr c own given f args waits rs y ks keeps known);
+        has_numbers =
+            to f waits.waits.sits.ready ks func (ap (slice_get readies) waits.waits.sits.func ∙ waits.waits.sits.learnt.ready) (ap (slice_get waits.waits.sits.ready.kept.items) waits.waits.by ∙ ks_at)
+            ∙ ap (keep_all p.target (length f.sig.args) c.base ks.items a.hand) below
+            ∙ ap (λ k. keep_all p.target (length f.sig.args) k ks.items a.hand (ns ++ (own ++ given))) its_base
+            ∙ keep_within p.target (length f.sig.args) ns own given ks.items a.hand (short p readies n fr c own given f waits a.hand y ks.items keeps);
         base = its_base;
         stacked = stacked;
         sits = record {
@@ -251,40 +249,14 @@ module _ (p : Program) (readies : List (Option Ready)) (n : ℕ) (r : Run (List 
           its = waits.waits.sits.its;
           arrives = waits.waits.sits.arrives;
           parts = waits.waits.sits.parts ∙ sym (append_assoc waits.waits.pre (fr.value ∷ []) fr.rest);
-          at = back_at p readies n fr c own given f args waits rs y ks keeps known a b.window win;
-          stack = waits.waits.sits.stack ∙ sym a.stack;
+          at = back_at p readies n fr c own given f waits a.hand y ks.items keeps b.window win;
+          stack = waits.waits.sits.stack ∙ sym (after_call p readies n fr c own given f waits a.hand y).stack;
           fuel = (let l = waits.fuel in omega (arith, l, left));
         };
         next = waits.waits.left;
-        run = runs ∙ return_run p fr frs rs y a.act (a.runs y);
+        run = runs ∙ return_run p fr frs a.hand y (after_call p readies n fr c own given f waits a.hand y).act ((after_call p readies n fr c own given f waits a.hand y).runs y);
         left = left;
       }
-
-      by_words : (ks : Vec (ℕ × ℕ) Global) → KeepsResults fr.func fr.block fr.value ks.items → (v : ReadyValue) → v.on_words ≡ is_on_words fr.value.op.family → b.numbers ≡ keep_all c.base ks.items (given_back v.on_words p.target f.sig (drop (base + values + 1) all) (fitted p.target f.sig.results hand)) (take base all) →
-          WordsTaken p fr waits.words c.words f args → Within p readies n b r
-      by_words ks keeps v e kept (inl (k, w)) =
-          within rs (after_plain p readies n fr c own given f args waits rs y k w) ks.items keeps
-          (kept ∙ ap (λ t. keep_all c.base ks.items (given_back t p.target f.sig (drop (base + values + 1) all) (fitted p.target f.sig.results hand)) (take base all)) (e ∙ not_on_words fr.value.op.family fr.value.ty (ap is_call k))
-          ∙ ap (λ xs. keep_all c.base ks.items xs (take base all)) (sym same))
-      by_words ks keeps v e kept (inr (k, o, bk, sig, giv)) =
-          within (words_of_call p.target (sig_of p.pkg (symbol_of fr.value.aux)) (numbers_at p.target (sig_of p.pkg (symbol_of fr.value.aux)).args fr.act.out 0) rs) (after_words p readies n fr c own given f args waits rs y k o bk) ks.items keeps
-          (kept ∙ ap (λ t. keep_all c.base ks.items (given_back t p.target f.sig (drop (base + values + 1) all) (fitted p.target f.sig.results hand)) (take base all)) (e ∙ on_words fr.value.op.family fr.value.ty (ap is_call_words k))
-          ∙ ap (λ xs. keep_all c.base ks.items xs (take base all)) words_same)
-        where
-          words_same : all_words p.target f.sig.args (drop (base + values + 1) all) ++ all_words p.target f.sig.results (fitted p.target f.sig.results hand)
-              ≡ words_of_call p.target (sig_of p.pkg (symbol_of fr.value.aux)) (numbers_at p.target (sig_of p.pkg (symbol_of fr.value.aux)).args fr.act.out 0) rs
-          words_same =
-              ap (λ xs. all_words p.target f.sig.args xs ++ all_words p.target f.sig.results (fitted p.target f.sig.results hand)) (args_there ∙ giv)
-              ∙ ap (λ xs. all_words p.target f.sig.args (fitted p.target f.sig.args (numbers_at p.target f.sig.args fr.act.out 0)) ++ all_words p.target f.sig.results xs) (sym same)
-              ∙ ap (λ (z : SigRecord). words_of_call p.target z (numbers_at p.target z.args fr.act.out 0) rs) (sym sig)
-
-      by_kept : (ks : Vec (ℕ × ℕ) Global) × (slice_get waits.waits.sits.ready.kept.items (place_in fr.func fr.value.id) ≡ Some ks) × KeepsResults fr.func fr.block fr.value ks.items →
-          (v : ReadyValue) × (slice_get waits.waits.sits.ready.values.items (place_in fr.func fr.value.id) ≡ Some v) → Within p readies n b r
-      by_kept (ks, ks_at, keeps) (v, v_at) =
-          let known = ready_at waits.waits.sits.learnt.set fr.func (waits.waits.sits.learnt.formed.kinds Missing) p.pkg waits.waits.sits.ready.values.items waits.waits.sits.learnt.values fr.block fr.value waits.waits.stands v v_at in
-          by_words ks keeps v known.on_words
-          (to waits.waits.sits.ready v ks (ap (slice_get readies) waits.waits.sits.func ∙ waits.waits.sits.learnt.ready) (ap (slice_get waits.waits.sits.ready.values.items) waits.waits.by ∙ v_at) (ap (slice_get waits.waits.sits.ready.kept.items) waits.waits.by ∙ ks_at))
-          waits.taken
 
 -- a machine that is inside a block
 pub advanced_so : (p : Program) (readies : List (Option Ready)) (a e : Held) (x : Next) → Advanced p.target p.pkg readies a e x → (n : ℕ) (r : Run (List ℕ)) → Within p readies n a r → Reaches p readies n e r x
@@ -330,9 +302,8 @@ advanced_so p readies _ _ _ (back a m b e cs c d x i j moved ended win rest) n r
 
     go : Returned p readies n a r q d (stored m) next.Return its_move → (Within p readies n b r → Reaches p readies n e r x) → Reaches p readies n e r x
     go k more_of =
-        elim (gives_back p readies n r q.f m.hand (fitted p.target q.f.sig.results m.hand) k.world refl k.left q.frames q.calls q.numbers q.args k.front (length q.sits.ready.values.items) d.base m.numbers b q.stacked k.run (j ∙ same.0) k.numbers (k.base ∙ q.base) k.long (k.window ∙ sym win)
-        (let P : List Active → Type 0 = λ z. GivesBack p.target readies (top z) q.f.sig (length q.sits.ready.values.items) d.base m.numbers m.hand b.numbers b.hand in
-        subst P same.0 (ended q.f q.sits.ready (ap (slice_get p.pkg.funcs) (k.func ∙ q.sits.func) ∙ q.sits.learnt.func) (ap (slice_get readies) (k.func ∙ q.sits.func) ∙ q.sits.learnt.ready)))) as (λ _. Reaches p readies n e r x) [
+        elim (gives_back p readies n r q.f d m b k.world k.left (ap (slice_get p.pkg.funcs) (k.func ∙ q.sits.func) ∙ q.sits.learnt.func) q.frames q.calls q.numbers (k.front ++ q.args) q.stacked k.run (j ∙ same.0) k.numbers (k.base ∙ q.base) (k.window ∙ sym win)
+        (let P : List Active → Type 0 = λ z. Ended p.target p.pkg readies (top z) d m b in subst P same.0 ended)) as (λ _. Reaches p readies n e r x) [
           | inl w ↦ more_of w
           | inr w ↦ done k.world w.2 (k.window ∙ sym win) (j ∙ same.0 ∙ w.1)
         ]

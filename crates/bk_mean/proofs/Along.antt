@@ -6,10 +6,10 @@ use Rattle.std.proofs.lemmas.Bool.{eqb-true}
 use Rattle.bk_ops.specs.Types.{word_width}
 use Rattle.bk_ops.specs.Memory.{number_at, with_number, with_zeros, do_overlap}
 use Rattle.bk_func.specs.Records.{ValueRecord, BlockRecord, FuncRecord}
-use Rattle.bk_func.specs.Words.{numbers_at}
 use Rattle.bk_func.specs.Numbers.{Program, Env, value_in, natural, numbers, address_by, state_of}
-use Rattle.bk_func.specs.Effects.{Effect, store, zeros, move, panic_bounds, call, call_words, out_word, ret_word, trap, pass, effect_of, has_effect, is_at, next_at, onward, chain, chain_from, order}
-use Rattle.bk_func.specs.Meaning.{Outcome, wild, World, Run, gives, stops, bind, Activation, put, Calls, halted, first_fault, checked_at, store_size, stored_of, with_window, moved, symbol_of, sig_of, without_memory, with_given, words_of_call, done_by, in_state, done_at, performed, phi_by, is_first_state, state_or, first_state, entered}
+use Rattle.bk_func.specs.Effects.{Effect, store, zeros, move, panic_bounds, call, call_words, out_word, ret_word, ret_words, trap, pass, effect_of, has_effect, is_at, next_at, onward, chain, chain_from, order}
+use Rattle.bk_func.specs.Symbols.{symbol_of, sig_of}
+use Rattle.bk_func.specs.Meaning.{Outcome, wild, World, Run, gives, stops, bind, Activation, put, Calls, halted, first_fault, checked_at, store_size, stored_of, with_window, moved, without_memory, with_given, words_sent, done_by, in_state, done_at, performed, phi_by, is_first_state, state_or, first_state, entered}
 use Rattle.bk_func.specs.Form.Text.{Defines}
 use Rattle.bk_func.specs.Form.Walks.{IsReached, IsDefinedAt}
 use Rattle.bk_func.specs.Form.Before.{Needs}
@@ -160,13 +160,12 @@ done_by_gives (Some call) calls p m v a w =
     call_gives (calls (symbol_of v.aux) (map m (without_memory v.args)) a.stack w) v.id a (λ results w. gives (with_given a v.id results) w)
     (λ results w. given_changes a v.id results)
 done_by_gives (Some call_words) calls p m v a w =
-    let g = sig_of p.pkg (symbol_of v.aux) in
-    let args = numbers_at p.target g.args a.out 0 in
-    call_gives (calls (symbol_of v.aux) args a.stack w) v.id a
-    (λ results w. gives (record (with_given a v.id (words_of_call p.target g args results)) { out = λ k. 0 }) w)
-    (λ results w. given_changes a v.id (words_of_call p.target g args results))
+    call_gives (calls (symbol_of v.aux) (words_sent p (sig_of p.pkg (symbol_of v.aux)) (map m (without_memory v.args)) a.out) a.stack w) v.id a
+    (λ results w. gives (record (with_given a v.id results) { out = λ k. 0 }) w)
+    (λ results w. given_changes a v.id results)
 done_by_gives (Some out_word) calls p m v a w = agree_self a.env Nowhere (λ n. n ≡ v.id)
 done_by_gives (Some ret_word) calls p m v a w = agree_self a.env Nowhere (λ n. n ≡ v.id)
+done_by_gives (Some ret_words) calls p m v a w = agree_self a.env Nowhere (λ n. n ≡ v.id)
 done_by_gives (Some trap) calls p m v a w = tt
 done_by_gives (Some pass) calls p m v a w = agree_self a.env Nowhere (λ n. n ≡ v.id)
 

@@ -1,5 +1,6 @@
 -- The states of a block that is reached follow one another from the state that it begins with, and the meaning does them all.
 use Rattle.std.proofs.Common.{◌≡◌, ℕ, refl, ap, sym, ◌∙◌, subst, arith, ◌⊎◌, inl, inr, List, [], ◌∷◌, ◌++◌, Bool, true, false}
+use Rattle.bk_ops.specs.Families.{is_call_result}
 use Rattle.bk_ops.specs.declared.family.Family.{Family}
 use Rattle.bk_ops.specs.declared.family.Family.TheVariants as op
 use Rattle.bk_ops.specs.declared.types.Ty.TheVariants.{Mem}
@@ -52,16 +53,14 @@ first_unnamed s f h b v i (inl p) n (k, m, at, got, stands) = go at
   where
     go : NamesAt v k → ⊥
     go (inl c) = other_op v op.Phi op.Copy is_phi_op refl refl p.0 c.0.0
-    go (inr (inl c)) = other_op v op.Phi op.SelectN is_phi_op refl refl p.0 c.0
-    go (inr (inr (inl c))) = other_op v op.Phi op.ResWord is_phi_op refl refl p.0 c.0
-    go (inr (inr (inr c))) = let q = phi_no_memory s f b v (h.rows b v i) p.0 in let d = sym q ∙ c.0 in absurd cc
+    go (inr (inl c)) = let d = ap is_call_result p.0 in absurd cc
+    go (inr (inr c)) = let q = phi_no_memory s f b v (h.rows b v i) p.0 in let d = sym q ∙ c.0 in absurd cc
 first_unnamed s f h b v i (inr o) n (k, m, at, got, stands) = go at
   where
     go : NamesAt v k → ⊥
     go (inl c) = other_op v op.InitMem op.Copy is_init_op refl refl o c.0.0
-    go (inr (inl c)) = other_op v op.InitMem op.SelectN is_init_op refl refl o c.0
-    go (inr (inr (inl c))) = other_op v op.InitMem op.ResWord is_init_op refl refl o c.0
-    go (inr (inr (inr c))) = let q = init_args s f b v (h.rows b v i) o in absurd (omega (arith, q, c.1))
+    go (inr (inl c)) = let d = ap is_call_result o in absurd cc
+    go (inr (inr c)) = let q = init_args s f b v (h.rows b v i) o in absurd (omega (arith, q, c.1))
 
 -- a first state as the meaning looks for it
 pub first_found : (v : ValueRecord) → is_first_state v.ty v.op.family ≡ true → IsFirst v
@@ -104,9 +103,8 @@ names_no_phi s f h b v i n (k, m, at, got, stands) p = go at
   where
     go : NamesAt v k → ⊥
     go (inl c) = other_op v op.Phi op.Copy is_phi_op refl refl p c.0.0
-    go (inr (inl c)) = other_op v op.Phi op.SelectN is_phi_op refl refl p c.0
-    go (inr (inr (inl c))) = other_op v op.Phi op.ResWord is_phi_op refl refl p c.0
-    go (inr (inr (inr c))) = let q = phi_no_memory s f b v (h.rows b v i) p in let d = sym q ∙ c.0 in absurd cc
+    go (inr (inl c)) = let d = ap is_call_result p in absurd cc
+    go (inr (inr c)) = let q = phi_no_memory s f b v (h.rows b v i) p in let d = sym q ∙ c.0 in absurd cc
 
 -- the head of linked numbers needs the others
 pub linked_needs : (s : Setting) (f : FuncRecord) → Sound s f → (b : BlockRecord) → IsReached f b → (t : ℕ) (ys : List ℕ) → IsLinked f b (t ∷ ys) → (v u : ValueRecord) → HasValue f b v → v.id ≡ t → HasValue f b u →

@@ -3,14 +3,13 @@ use Rattle.std.proofs.Common.{◌≡◌, ℕ, ◌+◌, ◌<◌, refl, ap, sym, �
 use Rattle.std.proofs.Math.ListN.{length-set}
 use Rattle.std.specs.Prelude.{slice_index, slice_get, slice_set, is_some, if◌then◌else◌}
 use Rattle.bk_ops.specs.declared.types.Target.{Target}
-use Rattle.bk_ops.specs.declared.types.Ty.{Ty}
 use Rattle.bk_ops.specs.declared.family.Family.{Family}
 use Rattle.bk_ops.specs.declared.family.Family.TheVariants as op
 use Rattle.bk_ops.specs.declared.family.ArmOp.TheVariants as arm
 use Rattle.bk_ops.specs.declared.family.RvOp.TheVariants as rv
 use Rattle.bk_func.specs.Records.{ValueRecord, BlockRecord, FuncRecord}
-use Rattle.bk_func.specs.Numbers.{Program, Env, Origin, phi, argument, argument_word, result, address, loaded, checked, same, computed, origin_of, numbers, number_of, number_by, room, natural, state_of}
-use Rattle.bk_func.specs.Effects.{Effect, store, zeros, move, panic_bounds, call, call_words, out_word, ret_word, trap, pass, effect_of, has_effect, chain_from, is_phi, is_check, is_load}
+use Rattle.bk_func.specs.Numbers.{Program, Env, Origin, phi, argument, argument_word, result, address, loaded, checked, same, computed, origin_of, numbers, number_of, number_by, room, state_of}
+use Rattle.bk_func.specs.Effects.{Effect, store, zeros, move, panic_bounds, call, call_words, out_word, ret_word, ret_words, trap, pass, effect_of, has_effect, chain_from, is_phi, is_check, is_load}
 use Rattle.bk_func.specs.Meaning.{Outcome, trapped, wild, World, Run, gives, stops, bind, Activation, Calls, put, fault_by, fault_at, halted, done_by, done_at, in_state, first_state}
 use Rattle.bk_func.specs.declared.form.FormKind.TheVariants.{Missing}
 use Rattle.bk_func.specs.Form.{IsFormed}
@@ -40,9 +39,9 @@ use Rattle.bk_mean.proofs.Levels.{acts, asks, ask_acts}
 use Rattle.bk_mean.proofs.Laying.{Filled, Placed}
 use Rattle.bk_mean.proofs.Along.{IfGives, IsShown}
 use Rattle.bk_mean.proofs.Walked.{Arrives, arrives_reached}
-use Rattle.bk_mean.proofs.Filling.{memory_after, filled_after, placed_state}
+use Rattle.bk_mean.proofs.Filling.{number_given, memory_after, filled_after, placed_state}
 use Rattle.bk_mean.proofs.Tables.{IsKnown, IsSettled as IsDone, Knows, Turn, arguments_read}
-use Rattle.bk_mean.proofs.Knowing.{IsResultOf, call_families, knows_quiet, knows_effect}
+use Rattle.bk_mean.proofs.Knowing.{IsResultOf, IsCallFamily, call_families, knows_quiet, knows_effect}
 use Rattle.bk_mean.proofs.Acting.{load_small, store_acted, zeros_acted, move_acted, out_acted, ret_acted, trap_acted}
 use Rattle.bk_mean.proofs.Tabled.{table, table_own, table_other, table_read}
 
@@ -61,7 +60,6 @@ IsBlank f numbers = (c : BlockRecord) (u : ValueRecord) → HasValue f c u → h
 -- a run is in a block where some values were done
 pub record IsAt (p : Program) (f : FuncRecord) (b : BlockRecord) (m : ℕ) (g : Ground) (pre : List ValueRecord) (t : Stage) (a : Activation) (w : World) : Type 0 where
   pub target : p.target ≡ g.target
-  pub types : f.sig.args ≡ g.types
   pub args : a.env.args ≡ g.args
   pub knows : Knows p f b pre (table f t.numbers) a.env
   pub blank : IsBlank f t.numbers
@@ -71,6 +69,7 @@ pub record IsAt (p : Program) (f : FuncRecord) (b : BlockRecord) (m : ℕ) (g : 
   pub window : w.window ≡ t.window
   pub out : a.out ≡ word_in t.words.out
   pub back : a.back ≡ word_in t.words.back
+  pub regs : a.regs ≡ t.words.regs.items
 
 -- what a run comes to, where that comes after a value
 abbrev pub Comes : After → Run Activation → (Activation → World → Type 0) → List ℕ → Type 0
@@ -118,6 +117,7 @@ call_or_not call = inl tt
 call_or_not call_words = inl tt
 call_or_not out_word = inr (λ z. z)
 call_or_not ret_word = inr (λ z. z)
+call_or_not ret_words = inr (λ z. z)
 call_or_not trap = inr (λ z. z)
 call_or_not pass = inr (λ z. z)
 
@@ -125,15 +125,21 @@ call_or_not pass = inr (λ z. z)
 result_selects : (z : ValueRecord) → origin_of z.op.family ≡ result → has_effect z ≡ true → z.op.family ≡ op.SelectN
 result_selects z o e = elim (result_families z o) as (λ _. z.op.family ≡ op.SelectN) [
   | inl k ↦ k
-  | inr k ↦ (let q = ap (λ (y : Family). is_some (effect_of y z.ty)) k in absurd cc)
+  | inr k ↦ absurd (words k)
 ]
+  where
+    words : (z.op.family ≡ op.ResWord) ⊎ (z.op.family ≡ op.ResReg) → ⊥
+    words (inl k) = let q = ap (λ (y : Family). is_some (effect_of y z.ty)) k in cc
+    words (inr k) = let q = ap (λ (y : Family). is_some (effect_of y z.ty)) k in cc
 
 -- a value that has results calls a function
 results_call : (s : Setting) (f : FuncRecord) → Sound s f → (b : BlockRecord) (v z : ValueRecord) → HasValue f b v → IsResultOf f b v z → (effect_of v.op.family v.ty ≡ Some call) ⊎ (effect_of v.op.family v.ty ≡ Some call_words)
-results_call s f h b v z i q = elim (call_families s f h b v z i q) as (λ _. (effect_of v.op.family v.ty ≡ Some call) ⊎ (effect_of v.op.family v.ty ≡ Some call_words)) [
-  | inl k ↦ inl (ap (λ (y : Family). effect_of y v.ty) k)
-  | inr k ↦ inr (ap (λ (y : Family). effect_of y v.ty) k)
-]
+results_call s f h b v z i q = go (call_families s f h b v z i q)
+  where
+    go : IsCallFamily v.op.family → (effect_of v.op.family v.ty ≡ Some call) ⊎ (effect_of v.op.family v.ty ≡ Some call_words)
+    go (inl k) = inl (ap (λ (y : Family). effect_of y v.ty) k)
+    go (inr (inl k)) = inr (ap (λ (y : Family). effect_of y v.ty) k)
+    go (inr (inr k)) = inr (ap (λ (y : Family). effect_of y v.ty) k)
 
 pub put_there : (h : ℕ → List ℕ) (n : ℕ) (d : List ℕ) → put h n d n ≡ d
 put_there h n d = rw (eq-eqb n n refl) refl
@@ -189,12 +195,13 @@ module _ (p : Program) (s : Setting) (f : FuncRecord) (b : BlockRecord) (m : ℕ
   acted t call_words e n = absurd (n tt)
   acted t out_word e n = out_acted s f h b v stands e
   acted t ret_word e n = ret_acted s f h b v stands e
+  acted t ret_words e n = tt
   acted t trap e n = let k = trap_acted s f h b v stands e in omega (arith, k)
   acted t pass e n = tt
 
   module _ (g : Ground) (r : ReadyValue) (ready : IsReadyValue p.pkg f v r) (t u : Stage) (x : After) (does : IsTurn g v r (place_in f v.id) t u x) (a : Activation) (w : World) (here : IsAt p f b m g pre t a w) where
-    on : Stands p f a.env g.target g.types g.args
-    on = record { target = here.target; types = here.types; args = here.args }
+    on : Stands p a.env g.target g.args
+    on = record { target = here.target; args = here.args }
 
     table_reads : (k : ℕ → ℕ) → map (table f t.numbers) v.args ≡ map k v.args → Reads t.numbers r.args.items k v.args
     table_reads k e = record { same = ap (map (slice_index t.numbers)) ready.args ∙ table_read f t.numbers v.args ∙ e }
@@ -312,7 +319,6 @@ module _ (p : Program) (s : Setting) (f : FuncRecord) (b : BlockRecord) (m : ℕ
     quiet_on none quiet = (
       record {
         target = here.target;
-        types = here.types;
         args = here.args;
         knows = (let q = now_changed none quiet in knows_quiet s f b level class pre v post turn p (table f t.numbers) (table f u.numbers) a.env (ap is_some none) here.knows q.0 q.1);
         blank = blank_after (settled_number none quiet) (ap is_some none);
@@ -322,6 +328,7 @@ module _ (p : Program) (s : Setting) (f : FuncRecord) (b : BlockRecord) (m : ℕ
         window = here.window ∙ sym (does.quiet none).0;
         out = here.out ∙ ap (λ (z : CallWords). word_in z.out) (sym (does.quiet none).1);
         back = here.back ∙ ap (λ (z : CallWords). word_in z.back) (sym (does.quiet none).1);
+        regs = here.regs ∙ ap (λ (z : CallWords). z.regs.items) (sym (does.quiet none).1);
       },
       refl,
       refl,
@@ -348,8 +355,9 @@ module _ (p : Program) (s : Setting) (f : FuncRecord) (b : BlockRecord) (m : ℕ
 
     with_same : with_words a t.words ≡ a
     with_same =
-        ap (λ (z : ℕ → ℕ). record a { out = z; back = word_in t.words.back }) (sym here.out)
-        ∙ ap (λ (z : ℕ → ℕ). record a { back = z }) (sym here.back)
+        ap (λ (z : ℕ → ℕ). record a { out = z; back = word_in t.words.back; regs = t.words.regs.items }) (sym here.out)
+        ∙ ap (λ (z : ℕ → ℕ). record a { back = z; regs = t.words.regs.items }) (sym here.back)
+        ∙ ap (λ (z : List ℕ). record a { regs = z }) (sym here.regs)
 
     seeing_same : seeing w t.window ≡ w
     seeing_same = ap (λ d. record w { window = d }) (sym here.window)
@@ -379,14 +387,13 @@ module _ (p : Program) (s : Setting) (f : FuncRecord) (b : BlockRecord) (m : ℕ
         let k = knows_effect s f b level class pre v post turn calls p (table f t.numbers) (table f u.numbers) a w (ap is_some e) here.knows
         (λ d. ap (λ z. table f z v.id) (does.acted y e) ∙ here.blank b v stands (ap is_some e) d)
         (λ n i. ap (λ z. table f z n) (does.acted y e)) in
-        let P : Run Activation → Type 0 = λ r. IfGives r (λ d z. ((c : ValueRecord) → IsResultOf f b v c → table f u.numbers c.id ≡ slice_index (d.env.given v.id) (natural c.int)) → Knows p f b (pre ++ v ∷ []) (table f u.numbers) d.env) in
+        let P : Run Activation → Type 0 = λ r. IfGives r (λ d z. ((c : ValueRecord) → IsResultOf f b v c → table f u.numbers c.id ≡ number_given p f c (d.env.given v.id)) → Knows p f b (pre ++ v ∷ []) (table f u.numbers) d.env) in
         subst P q k (λ c i. absurd (no_results y e n c i))
 
     act_on : (calls : Calls) (y : Effect) → effect_of v.op.family v.ty ≡ Some y → ¬ IsCalling y → one calls p f v a w ≡ gives then_on (seeing w u.window) → GoesOn u.window then_on (seeing w u.window)
     act_on calls y e n q = (
       record {
         target = here.target;
-        types = here.types;
         args = here.args;
         knows = act_knows calls y e n q;
         blank = (let P : List ℕ → Type 0 = λ z. IsBlank f z in subst P (sym (does.acted y e)) here.blank);
@@ -396,6 +403,7 @@ module _ (p : Program) (s : Setting) (f : FuncRecord) (b : BlockRecord) (m : ℕ
         window = refl;
         out = refl;
         back = refl;
+        regs = refl;
       },
       refl,
       refl,
@@ -436,6 +444,7 @@ module _ (p : Program) (s : Setting) (f : FuncRecord) (b : BlockRecord) (m : ℕ
         which panic_bounds e k = absurd k
         which out_word e k = absurd k
         which ret_word e k = absurd k
+        which ret_words e k = absurd k
         which trap e k = absurd k
         which pass e k = absurd k
 
@@ -451,18 +460,17 @@ module _ (p : Program) (s : Setting) (f : FuncRecord) (b : BlockRecord) (m : ℕ
 
   -- after a call its results have what it gave
   pub returns_so : (g : Ground) (t u : Stage) (a : Activation) (w : World) → IsAt p f b m g pre t a w → (calls : Calls) (d : Activation) (y : World) → one calls p f v a w ≡ gives d y → has_effect v ≡ true → ¬ (v.op.family ≡ op.SelectN) →
-      d.env.args ≡ a.env.args → d.memory ≡ v.id → IsShown d y → y.window ≡ u.window → d.out ≡ word_in u.words.out → d.back ≡ word_in u.words.back → length u.numbers ≡ length t.numbers →
-      ((c : ValueRecord) → IsResultOf f b v c → table f u.numbers c.id ≡ slice_index (d.env.given v.id) (natural c.int)) →
+      d.env.args ≡ a.env.args → d.memory ≡ v.id → IsShown d y → y.window ≡ u.window → d.out ≡ word_in u.words.out → d.back ≡ word_in u.words.back → d.regs ≡ u.words.regs.items → length u.numbers ≡ length t.numbers →
+      ((c : ValueRecord) → IsResultOf f b v c → table f u.numbers c.id ≡ number_given p f c (d.env.given v.id)) →
       ((n : ℕ) → ((c : ValueRecord) → IsResultOf f b v c → ¬ (c.id ≡ n)) → table f u.numbers n ≡ table f t.numbers n) →
       IsAt p f b m g (pre ++ v ∷ []) u d y
-  returns_so g t u a w here calls d y q act sel args memory shown window out back long given others = record {
+  returns_so g t u a w here calls d y q act sel args memory shown window out back regs long given others = record {
     target = here.target;
-    types = here.types;
     args = args ∙ here.args;
     knows = (
         let k = knows_effect s f b level class pre v post turn calls p (table f t.numbers) (table f u.numbers) a w act here.knows
         (λ e. others v.id (λ c i d. self c i d) ∙ here.blank b v stands act e) others in
-        let P : Run Activation → Type 0 = λ r. IfGives r (λ d z. ((c : ValueRecord) → IsResultOf f b v c → table f u.numbers c.id ≡ slice_index (d.env.given v.id) (natural c.int)) → Knows p f b (pre ++ v ∷ []) (table f u.numbers) d.env) in
+        let P : Run Activation → Type 0 = λ r. IfGives r (λ d z. ((c : ValueRecord) → IsResultOf f b v c → table f u.numbers c.id ≡ number_given p f c (d.env.given v.id)) → Knows p f b (pre ++ v ∷ []) (table f u.numbers) d.env) in
         subst P q k given
         );
     blank = λ c z i e n. others z.id (λ x j k. blank_result c z i e n x j k) ∙ here.blank c z i e n;
@@ -472,6 +480,7 @@ module _ (p : Program) (s : Setting) (f : FuncRecord) (b : BlockRecord) (m : ℕ
     window = window;
     out = out;
     back = back;
+    regs = regs;
   }
     where
       -- a result has no effect, but one that selects memory

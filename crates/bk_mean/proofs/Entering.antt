@@ -1,11 +1,13 @@
 -- A machine at the entry of a block, and at a call, goes on.
 use Rattle.std.proofs.Common.{◌≡◌, ℕ, zero, suc, ◌+◌, ◌-◌, ◌<◌, ◌≤◌, refl, ap, sym, ◌∙◌, subst, arith, ◌⊎◌, inl, inr, List, [], ◌∷◌, ◌++◌, length, drop, Option, Some, None, Bool, true, false}
 use Rattle.std.specs.Prelude.{slice_get, slice_index, nat_lt, if◌then◌else◌}
+use Rattle.bk_ops.specs.declared.types.Ty.{Ty}
 use Rattle.bk_func.specs.Records.{SigRecord, ValueRecord, BlockRecord, FuncRecord, PackageRecord}
-use Rattle.bk_func.specs.Words.{numbers_at, fitted}
+use Rattle.bk_func.specs.Words.{words_at}
 use Rattle.bk_func.specs.Numbers.{Program}
 use Rattle.bk_func.specs.Effects.{call, call_words, effect_of, chain_from}
-use Rattle.bk_func.specs.Meaning.{World, Run, gives, stops, trapped, going, Activation, first_state, entered, entry_id, fresh, fitted_run, run, called, begun, sig_of, symbol_of}
+use Rattle.bk_func.specs.Symbols.{sig_of, symbol_of}
+use Rattle.bk_func.specs.Meaning.{World, Run, gives, stops, trapped, going, Activation, first_state, entered, entry_id, fresh, run, called, words_sent, begun}
 use Rattle.bk_func.specs.Form.Text.{HasBlock}
 use Rattle.bk_mean.specs.Seen.{word_in}
 use Rattle.bk_mean.specs.Turned.{Stage}
@@ -26,11 +28,11 @@ use Rattle.bk_mean.proofs.Stacking.{Learnt, Sits, Suspended, WordsTaken, IsWaiti
 use Rattle.bk_mean.proofs.Starting.{begun_heads, begun_traps, begun_enters, callee_sig}
 
 -- fewer blocks are left
-stacked_lower : (p : Program) (readies : List (Option Ready)) (m n : ℕ) → m ≤ n → (frs : List Frame) (cs : List Active) (ns : List ℕ) (g : FuncRecord) (given : List ℕ) → Stacked p readies n frs cs ns g given → Stacked p readies m frs cs ns g given
-stacked_lower p readies m n l _ _ _ _ _ (bottom g given) = bottom g given
-stacked_lower p readies m n l _ _ _ _ _ (more frs cs ns fr c front args g given s base w) =
-    more frs cs ns fr c front args g given (stacked_lower p readies m n l frs cs ns fr.func args s) base
-    (record { window = w.window; world = w.world; words = w.words; waits = w.waits; taken = w.taken; fuel = (let q = w.fuel in omega (arith, q, l)) })
+stacked_lower : (p : Program) (readies : List (Option Ready)) (m n : ℕ) → m ≤ n → (frs : List Frame) (cs : List Active) (ns : List ℕ) (g : FuncRecord) → Stacked p readies n frs cs ns g → Stacked p readies m frs cs ns g
+stacked_lower p readies m n l _ _ _ _ (bottom g) = bottom g
+stacked_lower p readies m n l _ _ _ _ (more frs cs ns fr c front args g s base w) =
+    more frs cs ns fr c front args g (stacked_lower p readies m n l frs cs ns fr.func s) base
+    (record { window = w.window; world = w.world; words = w.words; waits = w.waits; taken = w.taken; sig = w.sig; fuel = (let q = w.fuel in omega (arith, q, l)) })
 
 -- more functions are made ready
 abbrev pub Grows : List (Option Ready) → List (Option Ready) → Type 0
@@ -38,7 +40,7 @@ Grows old new = (i : ℕ) (r : Ready) → slice_get old i ≡ Some (Some r) → 
 
 module _ (p : Program) (old new : List (Option Ready)) (grows : Grows old new) where
   learnt_grows : (i : ℕ) (f : FuncRecord) (r : Ready) → Learnt p old i f r → Learnt p new i f r
-  learnt_grows i f r l = record { func = l.func; ready = grows i r l.ready; set = l.set; formed = l.formed; values = l.values; kept = l.kept; blocks = l.blocks; order = l.order }
+  learnt_grows i f r l = record { places = l.places; func = l.func; ready = grows i r l.ready; set = l.set; formed = l.formed; values = l.values; kept = l.kept; blocks = l.blocks; order = l.order }
 
   abbrev sits_grows : (k i : ℕ) (f : FuncRecord) (b : BlockRecord) (m : ℕ) (pre rest : List ValueRecord) (c : Active) (front args : List ℕ) (words : CallWords) (window : List ℕ) (a : Activation) (w : World) →
       Sits p old k i f b m pre rest c front args words window a w → Sits p new k i f b m pre rest c front args words window a w
@@ -66,11 +68,11 @@ module _ (p : Program) (old new : List (Option Ready)) (grows : Grows old new) w
     by = s.by;
   }
 
-  stacked_grows : (n : ℕ) (frs : List Frame) (cs : List Active) (ns : List ℕ) (g : FuncRecord) (given : List ℕ) → Stacked p old n frs cs ns g given → Stacked p new n frs cs ns g given
-  stacked_grows n _ _ _ _ _ (bottom g given) = bottom g given
-  stacked_grows n _ _ _ _ _ (more frs cs ns fr c front args g given s base w) =
-      more frs cs ns fr c front args g given (stacked_grows n frs cs ns fr.func args s) base
-      (record { window = w.window; world = w.world; words = w.words; waits = suspended_grows fr c front args w.words w.window w.world w.waits; taken = w.taken; fuel = w.fuel })
+  stacked_grows : (n : ℕ) (frs : List Frame) (cs : List Active) (ns : List ℕ) (g : FuncRecord) → Stacked p old n frs cs ns g → Stacked p new n frs cs ns g
+  stacked_grows n _ _ _ _ (bottom g) = bottom g
+  stacked_grows n _ _ _ _ (more frs cs ns fr c front args g s base w) =
+      more frs cs ns fr c front args g (stacked_grows n frs cs ns fr.func s) base
+      (record { window = w.window; world = w.world; words = w.words; waits = suspended_grows fr c front args w.words w.window w.world w.waits; taken = w.taken; sig = w.sig; fuel = w.fuel })
 
 -- at the entry of a block, with one more that may be entered, a machine is inside it
 pub heads_within : (p : Program) (readies : List (Option Ready)) (l : ℕ) (h : Held) (r : Run (List ℕ)) → Heads p readies (suc l) h r → Within p readies l h r
@@ -100,7 +102,7 @@ heads_within p readies l h r q = go q.k refl
       has_calls = q.has_calls;
       has_numbers = q.has_numbers;
       base = q.base;
-      stacked = stacked_lower p readies l (suc l) (omega arith) q.frames q.calls q.numbers q.f q.args q.stacked;
+      stacked = stacked_lower p readies l (suc l) (omega arith) q.frames q.calls q.numbers q.f q.stacked;
       sits = record {
         ready = q.sits.ready;
         learnt = q.sits.learnt;
@@ -112,7 +114,6 @@ heads_within p readies l h r q = go q.k refl
         parts = q.sits.parts;
         at = record {
           target = q.sits.at.target;
-          types = q.sits.at.types;
           args = q.sits.at.args;
           knows = q.sits.at.knows;
           blank = q.sits.at.blank;
@@ -122,19 +123,20 @@ heads_within p readies l h r q = go q.k refl
           window = q.sits.at.window;
           out = q.sits.at.out;
           back = q.sits.at.back;
+          regs = q.sits.at.regs;
         };
         stack = q.sits.stack;
         fuel = (let a = q.sits.fuel in let b = q.left in omega (arith, a, b, e));
       };
       next = q.next;
       run = q.run
-          ∙ ap (λ j. resume p q.frames (fitted_run p.target q.f.sig.results (run j p q.i q.act q.b.id q.place q.world))) e
-          ∙ ap (λ z. resume p q.frames (fitted_run p.target q.f.sig.results z)) (
+          ∙ ap (λ j. resume p q.frames (run j p q.i q.act q.b.id q.place q.world)) e
+          ∙ ap (λ z. resume p q.frames z) (
           run_enters k l p q.i q.act q.b.id q.place q.world q.f q.b (values_at q.b.values q.sits.course.order.items) q.left q.sits.learnt.func
           (found_block q.f (sound q.sits.learnt.set q.f q.sits.learnt.formed).named q.b (to_contains q.b q.f.blocks (got_in q.f.blocks q.top.block q.b q.sits.block)))
           (q.sits.learnt.order q.top.block q.b q.sits.course q.sits.block q.sits.its q.act.memory q.sits.arrives).laid
           )
-          ∙ ap (λ vs. resume p q.frames (fitted_run p.target q.f.sig.results (inside p q.i q.f q.b k vs (entered p q.f q.b q.place q.act (record q.world { left = l })) (record q.world { left = l })))) q.sits.parts;
+          ∙ ap (λ vs. resume p q.frames (inside p q.i q.f q.b k vs (entered p q.f q.b q.place q.act (record q.world { left = l })) (record q.world { left = l }))) q.sits.parts;
       left = refl;
     }
 
@@ -142,7 +144,7 @@ heads_within p readies l h r q = go q.k refl
 pub heads_spent : (p : Program) (readies : List (Option Ready)) (h : Held) (r : Run (List ℕ)) → Heads p readies 0 h r → r ≡ stops going h.window
 heads_spent p readies h r q =
     q.run
-    ∙ ap (λ z. resume p q.frames (fitted_run p.target q.f.sig.results z)) (run_spent q.k p q.i q.act q.b.id q.place q.world q.left)
+    ∙ ap (λ z. resume p q.frames z) (run_spent q.k p q.i q.act q.b.id q.place q.world q.left)
     ∙ resume_stops p q.frames going q.world.window
     ∙ ap (λ d. stops going d) q.sits.at.window
 
@@ -180,16 +182,23 @@ module _ (p : Program) (readies : List (Option Ready)) (n : ℕ) (h : Held) (r :
     sig_same : sig_of p.pkg (symbol_of q.frame.value.aux) ≡ f.sig
     sig_same = callee_sig p.pkg (symbol_of q.frame.value.aux) i f (sym q.callee ∙ is_func) func
 
-    run_now : r ≡ resume p (q.frame ∷ q.frames) (fitted_run p.target f.sig.results (run q.frame.fuel p i (fresh (fitted p.target f.sig.args q.given) (q.top.stack - slice_index p.frames i)) (entry_id f.blocks) 0 q.world))
+    run_now : r ≡ resume p (q.frame ∷ q.frames) (run q.frame.fuel p i (fresh q.given (q.top.stack - slice_index p.frames i)) (entry_id f.blocks) 0 q.world)
     run_now =
         called_run
         ∙ ap (resume p (q.frame ∷ q.frames)) (begun_enters p i f q.given q.frame.act.stack q.frame.fuel q.world func (ap (λ s. nat_lt s (slice_index p.frames i)) (sym q.waits.sits.stack) ∙ room))
-        ∙ ap (λ s. resume p (q.frame ∷ q.frames) (fitted_run p.target f.sig.results (run q.frame.fuel p i (fresh (fitted p.target f.sig.args q.given) (s - slice_index p.frames i)) (entry_id f.blocks) 0 q.world))) (sym q.waits.sits.stack)
+        ∙ ap (λ s. resume p (q.frame ∷ q.frames) (run q.frame.fuel p i (fresh q.given (s - slice_index p.frames i)) (entry_id f.blocks) 0 q.world)) (sym q.waits.sits.stack)
 
-    stacked_on : (top : Active) → top.func ≡ q.top.func → top.block ≡ q.top.block → top.stack ≡ q.top.stack → top.next ≡ q.top.next → top.called_by ≡ q.top.called_by → top.base ≡ q.top.base → WordsTaken p q.frame q.top.words top.words f (fitted p.target f.sig.args q.given) →
-        Stacked p more_ready n (q.frame ∷ q.frames) (q.calls ++ top ∷ []) (q.numbers ++ (q.front ++ q.args)) f (fitted p.target f.sig.args q.given)
+    -- the call begins on the numbers at hand
+    heads_now : (m b : Held) → m.hand ≡ q.given → m.window ≡ h.window → Stacked p more_ready n (q.frame ∷ q.frames) m.calls m.numbers f → Begun i (length ready.values.items) (q.top.stack - slice_index p.frames i) m b → Heads p more_ready n b r
+    heads_now m b hand win stacked begun =
+        let P : Run (List ℕ) → Type 0 = λ z. Heads p more_ready n b z in
+        subst P (ap (λ xs. resume p (q.frame ∷ q.frames) (run q.frame.fuel p i (fresh xs (q.top.stack - slice_index p.frames i)) (entry_id f.blocks) 0 q.world)) hand ∙ sym run_now)
+        (begun_heads p more_ready n i q.frame.fuel (q.top.stack - slice_index p.frames i) f ready learnt (q.frame ∷ q.frames) m b stacked begun q.world (q.waits.sits.at.window ∙ sym win) q.left q.fuel)
+
+    stacked_on : (top : Active) → top.func ≡ q.top.func → top.block ≡ q.top.block → top.stack ≡ q.top.stack → top.next ≡ q.top.next → top.called_by ≡ q.top.called_by → top.base ≡ q.top.base → WordsTaken q.frame q.top.words top.words →
+        Stacked p more_ready n (q.frame ∷ q.frames) (q.calls ++ top ∷ []) (q.numbers ++ (q.front ++ q.args)) f
     stacked_on top fu bl st ne by ba taken =
-        more q.frames q.calls q.numbers q.frame top q.front q.args f (fitted p.target f.sig.args q.given) (stacked_grows p readies more_ready grows n q.frames q.calls q.numbers q.frame.func q.args q.stacked) (ba ∙ q.base)
+        more q.frames q.calls q.numbers q.frame top q.front q.args f (stacked_grows p readies more_ready grows n q.frames q.calls q.numbers q.frame.func q.stacked) (ba ∙ q.base)
         (record {
           window = h.window;
           world = q.world;
@@ -215,6 +224,7 @@ module _ (p : Program) (readies : List (Option Ready)) (n : ℕ) (h : Held) (r :
             by = by ∙ waits.by;
           };
           taken = taken;
+          sig = sig_same;
           fuel = q.fuel;
         })
       where
@@ -222,37 +232,39 @@ module _ (p : Program) (readies : List (Option Ready)) (n : ℕ) (h : Held) (r :
         waits = suspended_grows p readies more_ready grows q.frame q.top q.front q.args q.top.words h.window q.world q.waits
 
     -- on the numbers at hand
-    pub calling_begins : words ≡ false → (b : Held) → Begun p.target i f.sig (length ready.values.items) (q.top.stack - slice_index p.frames i) h b → Heads p more_ready n b r
-    calling_begins off b begun = (let P : Run (List ℕ) → Type 0 = λ z. Heads p more_ready n b z in subst P (sym run_now) (go q.how))
+    pub calling_begins : words ≡ false → (b : Held) → Begun i (length ready.values.items) (q.top.stack - slice_index p.frames i) h b → Heads p more_ready n b r
+    calling_begins off b begun = go q.how
       where
         go : ((effect_of q.frame.value.op.family q.frame.value.ty ≡ Some call) × (words ≡ false) × (h.hand ≡ q.given))
-            ⊎ ((effect_of q.frame.value.op.family q.frame.value.ty ≡ Some call_words) × (words ≡ true) × (q.given ≡ numbers_at p.target (sig_of p.pkg (symbol_of q.frame.value.aux)).args q.frame.act.out 0)) →
-            Heads p more_ready n b (resume p (q.frame ∷ q.frames) (fitted_run p.target f.sig.results (run q.frame.fuel p i (fresh (fitted p.target f.sig.args q.given) (q.top.stack - slice_index p.frames i)) (entry_id f.blocks) 0 q.world)))
+            ⊎ ((effect_of q.frame.value.op.family q.frame.value.ty ≡ Some call_words) × (words ≡ true) × (q.given ≡ words_sent p (sig_of p.pkg (symbol_of q.frame.value.aux)) h.hand q.frame.act.out)) → Heads p more_ready n b r
         go (inl (e, o, hand)) =
-            begun_heads p more_ready n i q.frame.fuel (q.top.stack - slice_index p.frames i) f ready learnt (q.frame ∷ q.frames) q.given h b
-            (let P : List Active → Type 0 = λ z. Stacked p more_ready n (q.frame ∷ q.frames) z h.numbers f (fitted p.target f.sig.args q.given) in
-            let S : List ℕ → Type 0 = λ z. Stacked p more_ready n (q.frame ∷ q.frames) (q.calls ++ q.top ∷ []) z f (fitted p.target f.sig.args q.given) in
-            subst P (sym q.has_calls) (subst S (sym q.has_numbers) (stacked_on q.top refl refl refl refl refl refl (inl (e, refl)))))
-            (ap (fitted p.target f.sig.args) hand) begun q.world q.waits.sits.at.window q.left q.fuel
+            let P : List Active → Type 0 = λ z. Stacked p more_ready n (q.frame ∷ q.frames) z h.numbers f in
+            let S : List ℕ → Type 0 = λ z. Stacked p more_ready n (q.frame ∷ q.frames) (q.calls ++ q.top ∷ []) z f in
+            heads_now h b hand refl (subst P (sym q.has_calls) (subst S (sym q.has_numbers) (stacked_on q.top refl refl refl refl refl refl (inl (e, refl))))) begun
         go (inr (e, o, giv)) = absurd (let z = sym o ∙ off in cc)
 
-    -- on the words that were written
-    pub calling_takes : words ≡ true → (m b : Held) → TakesWords p.target f.sig h m → Begun p.target i f.sig (length ready.values.items) (q.top.stack - slice_index p.frames i) m b → Heads p more_ready n b r
-    calling_takes on m b takes begun = (let P : Run (List ℕ) → Type 0 = λ z. Heads p more_ready n b z in subst P (sym run_now) (go q.how (takes.calls q.calls q.top q.has_calls)))
+    -- and on the words that were written
+    pub calling_takes : words ≡ true → (m b : Held) → TakesWords (length f.sig.args) h m → Begun i (length ready.values.items) (q.top.stack - slice_index p.frames i) m b → Heads p more_ready n b r
+    calling_takes on m b takes begun = go q.how (takes.calls q.calls q.top q.has_calls)
       where
         go : ((effect_of q.frame.value.op.family q.frame.value.ty ≡ Some call) × (words ≡ false) × (h.hand ≡ q.given))
-            ⊎ ((effect_of q.frame.value.op.family q.frame.value.ty ≡ Some call_words) × (words ≡ true) × (q.given ≡ numbers_at p.target (sig_of p.pkg (symbol_of q.frame.value.aux)).args q.frame.act.out 0)) →
-            (w : Words) × ((k : ℕ) → word_in w k ≡ 0) × (m.calls ≡ q.calls ++ (record q.top { words = record { out = w; back = q.top.words.back } }) ∷ []) →
-            Heads p more_ready n b (resume p (q.frame ∷ q.frames) (fitted_run p.target f.sig.results (run q.frame.fuel p i (fresh (fitted p.target f.sig.args q.given) (q.top.stack - slice_index p.frames i)) (entry_id f.blocks) 0 q.world)))
+            ⊎ ((effect_of q.frame.value.op.family q.frame.value.ty ≡ Some call_words) × (words ≡ true) × (q.given ≡ words_sent p (sig_of p.pkg (symbol_of q.frame.value.aux)) h.hand q.frame.act.out)) →
+            (w : Words) × ((k : ℕ) → word_in w k ≡ 0) × (m.calls ≡ q.calls ++ (record q.top { words = record { out = w; back = q.top.words.back; regs = q.top.words.regs } }) ∷ []) → Heads p more_ready n b r
         go (inl (e, o, hand)) w = absurd (let z = sym o ∙ on in cc)
         go (inr (e, o, giv)) (w, zero_all, calls) =
-            begun_heads p more_ready n i q.frame.fuel (q.top.stack - slice_index p.frames i) f ready learnt (q.frame ∷ q.frames) q.given m b
-            (let P : List Active → Type 0 = λ z. Stacked p more_ready n (q.frame ∷ q.frames) z m.numbers f (fitted p.target f.sig.args q.given) in
-            let S : List ℕ → Type 0 = λ z. Stacked p more_ready n (q.frame ∷ q.frames) (q.calls ++ (record q.top { words = record { out = w; back = q.top.words.back } }) ∷ []) z f (fitted p.target f.sig.args q.given) in
-            subst P (sym calls) (subst S (sym (takes.numbers ∙ q.has_numbers)) (stacked_on (record q.top { words = record { out = w; back = q.top.words.back } }) refl refl refl refl refl refl
-            (inr (e, zero_all, refl, sig_same, ap (fitted p.target f.sig.args) (giv ∙ ap (λ (z : SigRecord). numbers_at p.target z.args q.frame.act.out 0) sig_same))))))
-            (ap (fitted p.target f.sig.args) (takes.hand q.calls q.top q.has_calls ∙ ap (λ o. numbers_at p.target f.sig.args o 0) (sym q.waits.sits.at.out) ∙ ap (λ (z : SigRecord). numbers_at p.target z.args q.frame.act.out 0) (sym sig_same) ∙ sym giv))
-            begun q.world (q.waits.sits.at.window ∙ sym takes.window) q.left q.fuel
+            let P : List Active → Type 0 = λ z. Stacked p more_ready n (q.frame ∷ q.frames) z m.numbers f in
+            let S : List ℕ → Type 0 = λ z. Stacked p more_ready n (q.frame ∷ q.frames) (q.calls ++ (record q.top { words = record { out = w; back = q.top.words.back; regs = q.top.words.regs } }) ∷ []) z f in
+            heads_now m b sent takes.window
+            (subst P (sym calls) (subst S (sym (takes.numbers ∙ q.has_numbers)) (stacked_on (record q.top { words = record { out = w; back = q.top.words.back; regs = q.top.words.regs } }) refl refl refl refl refl refl (inr (e, zero_all, refl, refl)))))
+            begun
+          where
+            sent : m.hand ≡ q.given
+            sent =
+                takes.hand q.calls q.top q.has_calls
+                ∙ ap (λ o. h.hand ++ words_at o (length h.hand) (length f.sig.args - length h.hand)) (sym q.waits.sits.at.out)
+                ∙ ap (λ (t : List Ty → List Ty). h.hand ++ words_at q.frame.act.out (length h.hand) (length (t f.sig.args) - length h.hand)) (sym learnt.places)
+                ∙ ap (λ (z : SigRecord). words_sent p z h.hand q.frame.act.out) (sym sig_same)
+                ∙ sym giv
 
 -- a run begins
 pub starts_full : (p : Program) (i : ℕ) (f : FuncRecord) (args window : List ℕ) (stack n : ℕ) → slice_get p.pkg.funcs i ≡ Some f → nat_lt stack (slice_index p.frames i) ≡ true →
@@ -260,11 +272,10 @@ pub starts_full : (p : Program) (i : ℕ) (f : FuncRecord) (args window : List �
 starts_full p i f args window stack n func t = begun_traps p i f args stack n (record { window = window; left = n }) func t
 
 pub starts_heads : (p : Program) (readies : List (Option Ready)) (i : ℕ) (f : FuncRecord) (ready : Ready) → Learnt p readies i f ready → (stack n : ℕ) (a b : Held) → a.calls ≡ [] → a.numbers ≡ [] → nat_lt stack (slice_index p.frames i) ≡ false →
-    Begun p.target i f.sig (length ready.values.items) (stack - slice_index p.frames i) a b → Heads p readies n b (begun (run n p) p i a.hand stack (record { window = a.window; left = n }))
+    Begun i (length ready.values.items) (stack - slice_index p.frames i) a b → Heads p readies n b (begun (run n p) p i a.hand stack (record { window = a.window; left = n }))
 starts_heads p readies i f ready learnt stack n a b calls numbers room begun =
     let P : Run (List ℕ) → Type 0 = λ z. Heads p readies n b z in
-    let C : List Active → Type 0 = λ z. Stacked p readies n [] z a.numbers f (fitted p.target f.sig.args a.hand) in
-    let N : List ℕ → Type 0 = λ z. Stacked p readies n [] [] z f (fitted p.target f.sig.args a.hand) in
+    let C : List Active → Type 0 = λ z. Stacked p readies n [] z a.numbers f in
+    let N : List ℕ → Type 0 = λ z. Stacked p readies n [] [] z f in
     subst P (sym (begun_enters p i f a.hand stack n (record { window = a.window; left = n }) learnt.func room))
-    (begun_heads p readies n i n (stack - slice_index p.frames i) f ready learnt [] a.hand a b (subst C (sym calls) (subst N (sym numbers) (bottom f (fitted p.target f.sig.args a.hand)))) refl begun
-    (record { window = a.window; left = n }) refl refl (omega arith))
+    (begun_heads p readies n i n (stack - slice_index p.frames i) f ready learnt [] a b (subst C (sym calls) (subst N (sym numbers) (bottom f))) begun (record { window = a.window; left = n }) refl refl (omega arith))

@@ -3,7 +3,7 @@ use Rattle.std.proofs.Common.{◌≡◌, ℕ, refl, ap, sym, ◌∙◌, subst, �
 use Rattle.std.specs.Prelude.{if◌then◌else◌, slice_index}
 use Rattle.std.proofs.lemmas.Bool.{or_cases}
 use Rattle.bk_func.specs.Records.{ValueRecord, BlockRecord, FuncRecord}
-use Rattle.bk_func.specs.Numbers.{Program, loaded, result, origin_of, state_of, numbers, natural, made_of, read_at, address_by}
+use Rattle.bk_func.specs.Numbers.{Program, loaded, result, origin_of, state_of, numbers, made_of, read_at, address_by, cut_result, result_place}
 use Rattle.bk_func.specs.Effects.{has_effect}
 use Rattle.bk_func.specs.Meaning.{Outcome, World, Run, gives, stops, Activation, Calls, halted, fault_at, done_at}
 use Rattle.bk_func.specs.Form.Text.{HasBlock, HasValue}
@@ -249,9 +249,12 @@ load_number s f h p b v i r o a w shown t =
     ∙ rw (found_value f h.named b v v.id i refl, o, t)
     (ap (λ (d : List ℕ). made_of v.op.family v.ty v.op.a (read_at p.target v d (address_by p.target v (numbers p f a.env)))) shown)
 
--- a result is what its call gave
+-- the number of a result, of what its call gave
+abbrev pub number_given : Program → FuncRecord → ValueRecord → List ℕ → ℕ
+number_given p f v given = cut_result v.op.family p.target v.ty (slice_index given (result_place v.op.family p f v))
+
 pub result_number : (s : Setting) (f : FuncRecord) → Sound s f → (p : Program) (b : BlockRecord) (v : ValueRecord) → HasValue f b v → IsReached f b → origin_of v.op.family ≡ result → (a : Activation) →
-    numbers p f a.env v.id ≡ slice_index (a.env.given (slice_index v.args 0)) (natural v.int)
+    numbers p f a.env v.id ≡ number_given p f v (a.env.given (slice_index v.args 0))
 result_number s f h p b v i r o a =
     solved p f a.env (IsLive f) (rank f) (ranks s f h) v.id (record { block = b; value = v; stands = i; named = refl; reached = r })
     ∙ rw (found_value f h.named b v v.id i refl, o) refl

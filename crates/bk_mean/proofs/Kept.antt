@@ -5,7 +5,7 @@ use Rattle.std.specs.declared.alloc.Global.{Global}
 use Rattle.std.proofs.lemmas.List.{get_or-map}
 use Rattle.std.proofs.lemmas.Bool.{eqb-true}
 use Rattle.bk_func.specs.Records.{ValueRecord, BlockRecord, FuncRecord}
-use Rattle.bk_func.specs.Numbers.{Origin, result, origin_of, values_of, room, natural}
+use Rattle.bk_func.specs.Numbers.{Origin, result, origin_of, values_of, room}
 use Rattle.bk_func.specs.Effects.{is_at}
 use Rattle.bk_func.specs.Form.{IsFormed}
 use Rattle.bk_func.specs.Form.Text.{HasValue}
@@ -15,9 +15,10 @@ use Rattle.bk_func.specs.Form.Signatures.{Setting}
 use Rattle.bk_func.proofs.Faults.{In, filter-in, in-filter}
 use Rattle.bk_mean.specs.Numbering.{found_in, place_in}
 use Rattle.bk_mean.specs.Arranged.{IsOrdered}
-use Rattle.bk_mean.specs.Ready.{is_result, call_place, results_at, KeepsResults}
+use Rattle.bk_mean.specs.Ready.{is_result, call_place, kept_by, results_at, KeepsResults}
+use Rattle.bk_mean.specs.declared.ready.Kept.{Kept}
 use Rattle.bk_mean.proofs.Named.{to_in, to_contains, got_index, to_flat, from_flat}
-use Rattle.bk_mean.proofs.Roles.{result_args, result_families, first_argument}
+use Rattle.bk_mean.proofs.Roles.{result_args, result_calls, first_argument}
 use Rattle.bk_mean.proofs.Formed.{Sound, sound}
 use Rattle.bk_mean.proofs.Knowing.{IsResultOf}
 use Rattle.bk_mean.proofs.Walked.{Arrives, arrives_meets}
@@ -25,7 +26,6 @@ use Rattle.bk_mean.proofs.Arranged.{due_level, due_class, values_at}
 use Rattle.bk_mean.proofs.Ordered.{ordered_laid, ordered_placed, ordered_filled}
 use Rattle.bk_mean.proofs.Doing.{Order}
 use Rattle.bk_mean.proofs.Positions.{got, get_or_got}
-use Rattle.bk_mean.proofs.Results.{entry}
 use Rattle.bk_mean.proofs.Leaps.{found_at}
 use Rattle.bk_mean.proofs.Standing.{value_found_in, one_number}
 
@@ -80,35 +80,35 @@ module _ (s : Setting) (f : FuncRecord) (form : IsFormed s f) (b : BlockRecord) 
   place_under = (let l = (found_at f v.id place.0 place.1).1.low in omega (arith, l, place_is))
 
   -- its results are those that are kept at its place
-  pub result_kept : (u : ValueRecord) → IsResultOf f b v u → In (natural u.int, place_in f u.id) (results_at f (place_in f v.id) (values_of f))
+  pub result_kept : (u : ValueRecord) → IsResultOf f b v u → In (kept_by f u) (results_at f (place_in f v.id) (values_of f))
   result_kept u (iu, o, e) =
       let h = sound s f form in
       let a = first_argument u 0 (result_args s f b u (h.rows b u iu) o).0 in
       let c = call_result f u v.id (place_in f v.id) o (a ∙ ap Some e) (place.1 ∙ ap Some (sym place_is)) in
       let j = to_flat (λ (x : BlockRecord). x.values) b u f.blocks (to_in b f.blocks iu.0) (to_in u b.values iu.1) in
-      in_map (entry f) (filter (λ w. is_at (call_place f w) (place_in f v.id)) (values_of f)) u (filter-in (λ w. is_at (call_place f w) (place_in f v.id)) u (values_of f) j (some_at (call_place f u) (place_in f v.id) c))
+      in_map (kept_by f) (filter (λ w. is_at (call_place f w) (place_in f v.id)) (values_of f)) u (filter-in (λ w. is_at (call_place f w) (place_in f v.id)) u (values_of f) j (some_at (call_place f u) (place_in f v.id) c))
 
-  pub kept_result : (k : ℕ × ℕ) → In k (results_at f (place_in f v.id) (values_of f)) → (u : ValueRecord) × IsResultOf f b v u × (k ≡ (natural u.int, place_in f u.id))
+  pub kept_result : (k : Kept) → In k (results_at f (place_in f v.id) (values_of f)) → (u : ValueRecord) × IsResultOf f b v u × (k ≡ kept_by f u)
   kept_result k j =
       let h = sound s f form in
-      let (u, l, e) = map_in (entry f) (filter (λ w. is_at (call_place f w) (place_in f v.id)) (values_of f)) k j in
+      let (u, l, e) = map_in (kept_by f) (filter (λ w. is_at (call_place f w) (place_in f v.id)) (values_of f)) k j in
       let t = in-filter (λ w. is_at (call_place f w) (place_in f v.id)) u (values_of f) l in
       let (o, (a, g, n)) = result_call f u (place_in f v.id) (at_some (call_place f u) (place_in f v.id) t.1) in
       let d = one_number f a v.id (place_in f v.id) n (place.1 ∙ ap Some (sym place_is)) in
       let c = from_flat (λ (x : BlockRecord). x.values) u f.blocks t.0 in
       let iu : HasValue f c.0 u = (to_contains c.0 f.blocks c.1, to_contains u c.0.values c.2) in
-      let w = (h.memory c.0 u iu).call (result_families u o) v.id (g ∙ ap Some d) in
+      let w = (h.memory c.0 u iu).call (result_calls u o) v.id (g ∙ ap Some d) in
       let same = h.named.same_block c.0 b w.0 v (iu.0, w.1) i w.2 in
       let P : BlockRecord → Type 0 = λ x. HasValue f x u in
       (u, (subst P same iu, o, got_index u.args 0 a g ∙ d), sym e)
 
   -- as they stand among what is kept for all values
-  pub kept_there : (kept : List (Vec (ℕ × ℕ) Global)) → length kept ≡ room f → KeepsResults f (values_of f) (map (λ x. x.items) kept) →
-      (ks : Vec (ℕ × ℕ) Global) × (slice_get kept (place_in f v.id) ≡ Some ks) × (ks.items ≡ results_at f (place_in f v.id) (values_of f))
+  pub kept_there : (kept : List (Vec Kept Global)) → length kept ≡ room f → KeepsResults f (values_of f) (map (λ x. x.items) kept) →
+      (ks : Vec Kept Global) × (slice_get kept (place_in f v.id) ≡ Some ks) × (ks.items ≡ results_at f (place_in f v.id) (values_of f))
   kept_there kept n keeps =
       let l : place_in f v.id < length kept = (let p = place_under in omega (arith, p, n)) in
       let q = got kept (place_in f v.id) l in
-      (q.0, q.1, ap (λ (x : Vec (ℕ × ℕ) Global). x.items) (sym (get_or_got kept (place_in f v.id) q.0 q.0 q.1)) ∙ sym (get_or-map (λ (x : Vec (ℕ × ℕ) Global). x.items) kept (place_in f v.id) q.0 [] l) ∙ keeps.each (place_in f v.id) place_under)
+      (q.0, q.1, ap (λ (x : Vec Kept Global). x.items) (sym (get_or_got kept (place_in f v.id) q.0 q.0 q.1)) ∙ sym (get_or-map (λ (x : Vec Kept Global). x.items) kept (place_in f v.id) q.0 [] l) ∙ keeps.each (place_in f v.id) place_under)
 
 -- the order of a block in which a run arrives
 pub order_there : (s : Setting) (f : FuncRecord) → IsFormed s f → (b : BlockRecord) (m : ℕ) → Arrives f b m → (zs : List ℕ) → IsOrdered f b zs → Order s f b m (due_level f b (first_state b m)) due_class (values_at b.values zs)

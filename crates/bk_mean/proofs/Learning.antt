@@ -3,19 +3,20 @@ use Rattle.std.proofs.Common.{◌≡◌, ℕ, sym, subst, List, length, Option, 
 use Rattle.std.specs.Prelude.{slice_get}
 use Rattle.std.proofs.lemmas.Option.{slice_get_within}
 use Rattle.bk_func.specs.Records.{FuncRecord}
-use Rattle.bk_func.specs.Numbers.{Program, natural}
-use Rattle.bk_mean.specs.Numbering.{place_in}
+use Rattle.bk_func.specs.Numbers.{Program}
 use Rattle.bk_func.specs.Form.{IsFormed}
-use Rattle.bk_func.specs.Form.Signatures.{Setting}
+use Rattle.bk_func.specs.Form.Signatures.{Setting, whole}
 use Rattle.bk_func.proofs.Faults.{In}
 use Rattle.bk_mean.specs.declared.ready.Ready.{Ready}
-use Rattle.bk_mean.specs.Ready.{IsReady}
+use Rattle.bk_mean.specs.declared.ready.Kept.{Kept}
+use Rattle.bk_mean.specs.Ready.{IsReady, kept_by}
 use Rattle.bk_mean.proofs.Kept.{result_kept, kept_result, kept_there, order_there}
 use Rattle.bk_mean.proofs.Stacking.{Learnt}
 
-pub learnt_ready : (p : Program) (readies : List (Option Ready)) (i : ℕ) (f : FuncRecord) (r : Ready) → slice_get p.pkg.funcs i ≡ Some f → slice_get readies i ≡ Some (Some r) → (s : Setting) → IsFormed s f → IsReady p.pkg f r →
+pub learnt_ready : (p : Program) → p.places ≡ whole → (readies : List (Option Ready)) (i : ℕ) (f : FuncRecord) (r : Ready) → slice_get p.pkg.funcs i ≡ Some f → slice_get readies i ≡ Some (Some r) → (s : Setting) → IsFormed s f → IsReady p.pkg f r →
     Learnt p readies i f r
-learnt_ready p readies i f r at ready s form q = record {
+learnt_ready p places readies i f r at ready s form q = record {
+  places = places;
   func = at;
   ready = ready;
   set = s;
@@ -26,8 +27,8 @@ learnt_ready p readies i f r at ready s form q = record {
         k.0,
         k.1,
         record {
-          all = λ u x. (let P : List (ℕ × ℕ) → Type 0 = λ ks. In (natural u.int, place_in f u.id) ks in subst P (sym k.2) (result_kept s f form b v j u x));
-          only = λ y x. (let P : List (ℕ × ℕ) → Type 0 = λ ks. In y ks in kept_result s f form b v j y (subst P k.2 x));
+          all = λ u x. (let P : List Kept → Type 0 = λ ks. In (kept_by f u) ks in subst P (sym k.2) (result_kept s f form b v j u x));
+          only = λ y x. (let P : List Kept → Type 0 = λ ks. In y ks in kept_result s f form b v j y (subst P k.2 x));
         },
       );
   blocks = q.blocks;

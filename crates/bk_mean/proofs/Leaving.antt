@@ -2,26 +2,26 @@
 use Rattle.std.proofs.Common.{◌≡◌, ℕ, zero, suc, ◌+◌, ◌-◌, ◌<◌, refl, ap, sym, ◌∙◌, subst, arith, ◌⊎◌, inl, inr, List, [], ◌∷◌, ◌++◌, length, take, map, append-nil, Option, Some, None, Bool, true, false}
 use Rattle.std.specs.Prelude.{slice_get, slice_index, if◌then◌else◌}
 use Rattle.std.specs.List.{Contains}
-use Rattle.bk_ops.specs.declared.types.Target.{Target}
+use Rattle.bk_ops.specs.declared.types.Ty.{Ty}
 use Rattle.bk_ops.specs.declared.family.Family.{Family}
 use Rattle.bk_ops.specs.declared.family.Family.TheVariants as op
 use Rattle.bk_func.specs.Records.{ValueRecord, BlockRecord, FuncRecord}
 use Rattle.bk_func.specs.Numbers.{Program, Env, origin_of, numbers, room, values_of, value_of}
 use Rattle.bk_func.specs.Effects.{has_effect, chain_from, is_phi}
-use Rattle.bk_func.specs.Words.{numbers_at, count_words}
-use Rattle.bk_func.specs.Meaning.{World, Activation, first_state, entered, edge_place, number_named, without_memory, is_make_result, results_by, value_named}
+use Rattle.bk_func.specs.Words.{words_at}
+use Rattle.bk_func.specs.Meaning.{World, Activation, first_state, entered, edge_place, number_named, without_memory, is_make_result, words_back, results_by, value_named}
 use Rattle.bk_func.specs.declared.form.FormKind.TheVariants.{Missing, Control, Use}
 use Rattle.bk_func.specs.Form.{IsFormed}
 use Rattle.bk_func.specs.Form.Text.{HasBlock, HasValue, Defines, IsPhi}
 use Rattle.bk_func.specs.Form.Walks.{IsReached, IsDefinedAt}
-use Rattle.bk_func.specs.Form.Signatures.{Setting}
+use Rattle.bk_func.specs.Form.Signatures.{Setting, whole}
 use Rattle.bk_func.proofs.Faults.{In}
 use Rattle.bk_func.proofs.Flat.{Laid, last, more, Still}
 use Rattle.bk_mean.specs.Numbering.{place_in}
 use Rattle.bk_mean.specs.Machine.{at_place, arg_number}
 use Rattle.bk_mean.specs.Ready.{IsReadyValue, AreReadyValues, IsReadyBlock, count_values, phis_from}
 use Rattle.bk_mean.specs.Seen.{word_in}
-use Rattle.bk_mean.specs.Left.{put_all, phi_number, phi_numbers, results_of}
+use Rattle.bk_mean.specs.Left.{put_all, phi_number, phi_numbers, given_words, results_of}
 use Rattle.bk_mean.specs.Turned.{Stage, Ground}
 use Rattle.bk_mean.specs.declared.ready.ReadyValue.{ReadyValue}
 use Rattle.bk_mean.specs.declared.ready.ReadyBlock.{ReadyBlock}
@@ -165,7 +165,6 @@ module _ (p : Program) (s : Setting) (f : FuncRecord) (b : BlockRecord) (m : ℕ
     pub crossed : IsAt p f c d.memory g [] (record { numbers = numbers_then; window = u.window; words = u.words }) (entered p f c place d y) y
     crossed = record {
       target = at.target;
-      types = at.types;
       args = at.args;
       knows = knows_entered s f h p c (reached_over f b c reached has_c succ) place d y at.shown (table f u.numbers) (table f numbers_then)
           (λ x defined off. end_known x (defined_before f b c x has_c succ defined off)) same_elsewhere phi_there;
@@ -176,6 +175,7 @@ module _ (p : Program) (s : Setting) (f : FuncRecord) (b : BlockRecord) (m : ℕ
       window = at.window;
       out = at.out;
       back = at.back;
+      regs = at.regs;
     }
 
   -- the numbers of a value's arguments, where the value is defined at the end
@@ -185,52 +185,46 @@ module _ (p : Program) (s : Setting) (f : FuncRecord) (b : BlockRecord) (m : ℕ
       (λ x j. end_known x (arguments_defined s f h.named h.uses a b v i q defined x (in_take (length v.args - 1) v.args x j)))
 
   -- the results that are taken are those that the control gives
-  pub results_taken : (rs : List ReadyValue) → AreReadyValues p.pkg f (values_of f) rs → (id control : ℕ) → b.control ≡ Some id → control ≡ place_in f id → (t : Target) → p.target ≡ t →
-      results_of (slice_get rs control) u.numbers t f.sig u.words.back ≡ results_by (value_named f b.control) p f d
-  results_taken rs ready id control e k t q = go (value_of f id) refl
+  pub results_taken : p.places ≡ whole → (rs : List ReadyValue) → AreReadyValues p.pkg f (values_of f) rs → (id control : ℕ) → b.control ≡ Some id → control ≡ place_in f id →
+      results_of (slice_get rs control) u.numbers f.sig u.words ≡ results_by (value_named f b.control) p f d
+  results_taken places rs ready id control e k = go (value_of f id) refl
     where
       defined : IsDefinedAt f b id
       defined = (h.uses b (reached_block f b reached)).block id e
 
-      words : (o : Option ReadyValue) → (o ≡ None) ⊎ ((r : ReadyValue) × (o ≡ Some r) × (r.gives_results ≡ false)) → results_of o u.numbers t f.sig u.words.back ≡ numbers_at p.target f.sig.results d.back (count_words p.target f.sig.args)
-      words o z = by o z ∙ ap (λ x. numbers_at x f.sig.results (word_in u.words.back) (count_words x f.sig.args)) (sym q) ∙ ap (λ (x : ℕ → ℕ). numbers_at p.target f.sig.results x (count_words p.target f.sig.args)) (sym at.back)
-        where
-          by : (o : Option ReadyValue) → (o ≡ None) ⊎ ((r : ReadyValue) × (o ≡ Some r) × (r.gives_results ≡ false)) →
-              results_of o u.numbers t f.sig u.words.back ≡ numbers_at t f.sig.results (word_in u.words.back) (count_words t f.sig.args)
-          by None z = refl
-          by (Some r) (inl z) = absurd cc
-          by (Some r) (inr (x, z, n)) =
-              let w : r ≡ x = cc in
-              let code : r.gives_results ≡ false = ap (λ (y : ReadyValue). y.gives_results) w ∙ n in
-              ap (λ c. if c then map (slice_index u.numbers) (without_memory r.args.items) else numbers_at t f.sig.results (word_in u.words.back) (count_words t f.sig.args)) code
+      words : given_words f.sig u.words ≡ words_back p f d
+      words =
+          ap (λ (x : ℕ → ℕ). u.words.regs.items ++ words_at x (length f.sig.args + length u.words.regs.items) (length f.sig.results - length u.words.regs.items)) (sym at.back)
+          ∙ ap (λ (xs : List ℕ). xs ++ words_at d.back (length f.sig.args + length xs) (length f.sig.results - length xs)) (sym at.regs)
+          ∙ ap (λ (g : List Ty → List Ty). d.regs ++ words_at d.back (length (g f.sig.args) + length d.regs) (length (g f.sig.results) - length d.regs)) (sym places)
 
-      by_control : (v : ValueRecord) → value_of f id ≡ Some v → results_of (slice_get rs control) u.numbers t f.sig u.words.back ≡ results_by (Some v) p f d
+      by_control : (v : ValueRecord) → value_of f id ≡ Some v → results_of (slice_get rs control) u.numbers f.sig u.words ≡ results_by (Some v) p f d
       by_control v z =
           let w = value_found f id v z in
           let r = ready_there s f (o.formed.kinds Missing) p.pkg rs ready w.0 v w.1 in
           let known = ready_at s f (o.formed.kinds Missing) p.pkg rs ready w.0 v w.1 r.0 r.1 in
           let at_v : slice_get rs control ≡ Some r.0 = ap (slice_get rs) (k ∙ ap (place_in f) (sym w.2)) ∙ r.1 in
           let P : ℕ → Type 0 = λ n. IsDefinedAt f b n in
-          by (is_make_result v.op.family) refl w.0 w.1 (subst P (sym w.2) defined) r.0 known at_v
+          ap (λ x. results_of x u.numbers f.sig u.words) at_v ∙ ap (λ c. if c then map (slice_index u.numbers) (without_memory r.0.args.items) else given_words f.sig u.words) known.gives_results
+          ∙ by (is_make_result v.op.family) refl w.0 w.1 (subst P (sym w.2) defined) r.0 known
         where
-          by : (c : Bool) → is_make_result v.op.family ≡ c → (a : BlockRecord) → HasValue f a v → IsDefinedAt f b v.id → (r : ReadyValue) → IsReadyValue p.pkg f v r → slice_get rs control ≡ Some r →
-              results_of (slice_get rs control) u.numbers t f.sig u.words.back ≡ results_by (Some v) p f d
-          by true c a i def r known at_v =
-              ap (λ x. results_of x u.numbers t f.sig u.words.back) at_v
-              ∙ ap (λ x. if x then map (slice_index u.numbers) (without_memory r.args.items) else numbers_at t f.sig.results (word_in u.words.back) (count_words t f.sig.args)) (known.gives_results ∙ c)
+          by : (c : Bool) → is_make_result v.op.family ≡ c → (a : BlockRecord) → HasValue f a v → IsDefinedAt f b v.id → (r : ReadyValue) → IsReadyValue p.pkg f v r →
+              (if is_make_result v.op.family then map (slice_index u.numbers) (without_memory r.args.items) else given_words f.sig u.words) ≡ results_by (Some v) p f d
+          by true c a i def r known =
+              ap (λ x. if x then map (slice_index u.numbers) (without_memory r.args.items) else given_words f.sig u.words) c
               ∙ ap (λ xs. map (slice_index u.numbers) (without_memory xs)) known.args
               ∙ ap (map (slice_index u.numbers)) (without_places f v.args)
               ∙ table_read f u.numbers (without_memory v.args)
               ∙ args_read a v i (λ x. let y = ap is_make_result x in cc) def
-              ∙ ap (λ x. if x then map (numbers p f d.env) (without_memory v.args) else numbers_at p.target f.sig.results d.back (count_words p.target f.sig.args)) (sym c)
-          by false c a i def r known at_v =
-              words (slice_get rs control) (inr (r, at_v, known.gives_results ∙ c))
-              ∙ ap (λ x. if x then map (numbers p f d.env) (without_memory v.args) else numbers_at p.target f.sig.results d.back (count_words p.target f.sig.args)) (sym c)
+              ∙ ap (λ x. if x then map (numbers p f d.env) (without_memory v.args) else words_back p f d) (sym c)
+          by false c a i def r known =
+              ap (λ x. if x then map (slice_index u.numbers) (without_memory r.args.items) else given_words f.sig u.words) c ∙ words
+              ∙ ap (λ x. if x then map (numbers p f d.env) (without_memory v.args) else words_back p f d) (sym c)
 
       value_is : (z : Option ValueRecord) → value_of f id ≡ z → value_named f b.control ≡ z
       value_is z w = ap (value_named f) e ∙ w
 
-      go : (z : Option ValueRecord) → value_of f id ≡ z → results_of (slice_get rs control) u.numbers t f.sig u.words.back ≡ results_by (value_named f b.control) p f d
+      go : (z : Option ValueRecord) → value_of f id ≡ z → results_of (slice_get rs control) u.numbers f.sig u.words ≡ results_by (value_named f b.control) p f d
       go None z = absurd (missing z (home f h.named b id reached defined))
         where
           missing : value_of f id ≡ None → Home f b id → ⊥

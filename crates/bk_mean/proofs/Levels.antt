@@ -15,7 +15,7 @@ use Rattle.bk_func.proofs.Faults.{In}
 use Rattle.bk_func.proofs.Needs.{any_in, in_any}
 use Rattle.bk_ops.specs.declared.family.Family.TheVariants as op
 use Rattle.bk_mean.proofs.Named.{to_in, to_contains, got_in, in_got}
-use Rattle.bk_mean.proofs.Roles.{loads, checks, no_phi, not_phi, check_args}
+use Rattle.bk_mean.proofs.Roles.{is_result, no_call_result, loads, checks, no_phi, not_phi, check_args}
 use Rattle.bk_mean.proofs.Typed.{effect_is_state}
 use Rattle.bk_mean.proofs.Formed.{Sound}
 use Rattle.bk_mean.proofs.Ranks.{rank, rank_below_room, argument_falls, needs_precede, needs_onward, behind}
@@ -39,8 +39,7 @@ pub check_state : (s : Setting) (f : FuncRecord) → Sound s f → (b : BlockRec
     (m : ℕ) × Names f v m × IsStateIn f b m
 check_state s f h b v i r o =
     let t = check_args s f b v (h.rows b v i) (ap is_check o) in
-    (h.memory b v i).names 1 (λ p. let e = ap origin_of p in absurd cc) (λ p. let e = ap origin_of p in absurd cc) (λ p. let e = ap origin_of p in absurd cc)
-    (λ p. let e = ap origin_of p in absurd cc) r (inr (inr (inr (t.1, omega (arith, t.0))))) (omega (arith, t.0))
+    (h.memory b v i).names 1 (λ p. let e = ap origin_of p in absurd cc) (λ p. let e = ap origin_of p in absurd cc) (no_call_result v (ap is_result o)) r (inr (inr (t.1, omega (arith, t.0)))) (omega (arith, t.0))
 
 is_checked : (o : Origin) → is_check o ≡ true → o ≡ checked
 is_checked checked e = refl

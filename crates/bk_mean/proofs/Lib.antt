@@ -48,7 +48,6 @@ pub mod Roles
 pub mod Rounds
 pub mod Settled
 pub mod Sizes
-pub mod Spelt
 pub mod Stacking
 pub mod Standing
 pub mod Stands
@@ -61,3 +60,4 @@ pub mod Turns
 pub mod Typed
 pub mod Walked
 pub mod Windows
+pub mod Written

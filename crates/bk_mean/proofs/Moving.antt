@@ -5,6 +5,7 @@ use Rattle.std.specs.List.{AllZip, Contains, All, position_or_len}
 use Rattle.std.proofs.lemmas.Bool.{eqb-true, lt-ltb}
 use Rattle.std.proofs.lemmas.Option.{slice_get_within, get_or_from_slice_get}
 use Rattle.std.proofs.lemmas.List.Sums.{sum_by-cons}
+use Rattle.bk_ops.specs.Families.{is_word_call}
 use Rattle.bk_ops.specs.declared.family.Family.{Family}
 use Rattle.bk_ops.specs.declared.family.Family.TheVariants as op
 use Rattle.bk_ops.specs.declared.family.ArmOp.TheVariants as arm
@@ -15,10 +16,10 @@ use Rattle.bk_func.specs.declared.parts.Kind.{Kind}
 use Rattle.bk_func.specs.declared.parts.Kind.TheVariants.{Plain, If, First, Ret, Exit}
 use Rattle.bk_func.specs.Records.{SigRecord, ValueRecord, BlockRecord, FuncRecord, PackageRecord}
 use Rattle.bk_func.specs.Edits.{block_of}
-use Rattle.bk_func.specs.Words.{numbers_at, fitted}
 use Rattle.bk_func.specs.Numbers.{Program, numbers, room, values_of, is_mem}
 use Rattle.bk_func.specs.Effects.{Effect, call, call_words, pass, effect_of, has_effect, chain_from}
-use Rattle.bk_func.specs.Meaning.{Outcome, World, Run, gives, stops, bind, trapped, wild, Activation, Entries, first_state, entered, edge_place, fitted_run, run, called, sig_of, symbol_of, without_memory, left_by, onto, results_by, value_named, is_taken}
+use Rattle.bk_func.specs.Symbols.{sig_of, symbol_of}
+use Rattle.bk_func.specs.Meaning.{Outcome, World, Run, gives, stops, bind, trapped, wild, Activation, Entries, first_state, entered, edge_place, run, called, words_sent, without_memory, left_by, onto, results_by, value_named, is_taken}
 use Rattle.bk_func.specs.declared.form.FormKind.TheVariants.{Missing, Control, Use}
 use Rattle.bk_func.specs.Form.{IsFormed}
 use Rattle.bk_func.specs.Form.Text.{HasBlock, HasValue, IsPhi}
@@ -27,7 +28,7 @@ use Rattle.bk_func.specs.Form.Parts.{IsBlockNumber, FitsKind, KeepsControl}
 use Rattle.bk_func.proofs.Faults.{In}
 use Rattle.bk_func.proofs.Flat.{flat}
 use Rattle.bk_mean.specs.Numbering.{place_in}
-use Rattle.bk_mean.specs.Ready.{AreReadyValues, IsReadyValue, IsReadyBlock, IsReadyEdge, is_on_words, count_values, control_place}
+use Rattle.bk_mean.specs.Ready.{AreReadyValues, IsReadyValue, IsReadyBlock, IsReadyEdge, count_values, control_place}
 use Rattle.bk_mean.specs.Turned.{Stage, Ground, Turned}
 use Rattle.bk_mean.specs.Left.{put_all, phi_numbers, results_of, Desk, Goes, Leaves, Crosses, Enters, Begins, Ran, GoesOn, going, chosen}
 use Rattle.bk_mean.specs.Running.{Held, Store, stored, Moved, MovesOn}
@@ -128,12 +129,14 @@ abbrev pub is_call_words : Option Effect → Bool
 is_call_words (Some call_words) = true
 is_call_words _ = false
 
-pub not_on_words : (g : Family) (ty : Ty) → is_call (effect_of g ty) ≡ true → is_on_words g ≡ false
+pub not_on_words : (g : Family) (ty : Ty) → is_call (effect_of g ty) ≡ true → is_word_call g ≡ false
 not_on_words op.Call ty e = absurd cc
+not_on_words op.CallRegs ty e = absurd cc
 not_on_words _ ty e = refl
 
-pub on_words : (g : Family) (ty : Ty) → is_call_words (effect_of g ty) ≡ true → is_on_words g ≡ true
+pub on_words : (g : Family) (ty : Ty) → is_call_words (effect_of g ty) ≡ true → is_word_call g ≡ true
 on_words op.Call ty e = refl
+on_words op.CallRegs ty e = refl
 on_words op.SelectN ty e = absurd (selects (is_mem ty) e)
   where
     selects : (b : Bool) → is_call_words (if b then Some pass else None) ≡ true → ⊥
@@ -147,9 +150,9 @@ on_words _ ty e = absurd cc
 
 -- the ends of runs reach through the calls that wait
 ended_run : (p : Program) (frs : List Frame) (f : FuncRecord) (i : ℕ) (b : BlockRecord) (k : ℕ) (vs : List ValueRecord) (a : Activation) (w : World) (o : Outcome) (d : List ℕ) → flat (called (run k p) p) p f vs a w ≡ stops o d →
-    resume p frs (fitted_run p.target f.sig.results (inside p i f b k vs a w)) ≡ stops o d
+    resume p frs (inside p i f b k vs a w) ≡ stops o d
 ended_run p frs f i b k vs a w o d e =
-    ap (λ (r : Run Activation). resume p frs (fitted_run p.target f.sig.results (bind r (λ d y. left_by b.kind (run k p) p i f b d y)))) e ∙ resume_stops p frs o d
+    ap (λ (r : Run Activation). resume p frs (bind r (λ d y. left_by b.kind (run k p) p i f b d y))) e ∙ resume_stops p frs o d
 
 module _ (p : Program) (readies : List (Option Ready)) (n : ℕ) (h : Held) (r : Run (List ℕ)) (q : Within p readies n h r) (d : Active) (e : Store) (x : Next) (moved : Moved p.target p.pkg readies q.top d (stored h) e x) where
   abbrev its : Sits p readies q.k q.i q.f q.b q.m q.pre q.rest q.top q.front q.args q.top.words h.window q.act q.world
@@ -211,7 +214,7 @@ module _ (p : Program) (readies : List (Option Ready)) (n : ℕ) (h : Held) (r :
       ∙ ap (λ z. q.numbers ++ z) (goes.numbers ∙ ap (λ z. goes.last ++ z) own_args)
 
   abbrev g : Ground
-  g = ground p q.f q.args
+  g = ground p q.args
 
   abbrev left : List ValueRecord
   left = values_at q.b.values (drop q.top.next its.course.order.items)
@@ -222,8 +225,8 @@ module _ (p : Program) (readies : List (Option Ready)) (n : ℕ) (h : Held) (r :
       round p learnt.set q.f q.b q.m (due_level q.f q.b (first_state q.b q.m)) due_class (values_at q.b.values its.course.order.items) order g q.top.block its.course.first its.block block_known.first its.ready.values.items learnt.values (called (run q.k p) p)
       (drop q.top.next its.course.order.items) (drop ran.at its.course.order.items) (record { numbers = q.front; window = h.window; words = q.top.words }) ran.stage ran.by ran.after ran.turned q.pre (its.parts ∙ ap (λ vs. q.pre ++ vs) q.next) q.act q.world its.at
 
-  run_left : r ≡ resume p q.frames (fitted_run p.target q.f.sig.results (inside p q.i q.f q.b q.k left q.act q.world))
-  run_left = q.run ∙ ap (λ vs. resume p q.frames (fitted_run p.target q.f.sig.results (inside p q.i q.f q.b q.k vs q.act q.world))) q.next
+  run_left : r ≡ resume p q.frames (inside p q.i q.f q.b q.k left q.act q.world)
+  run_left = q.run ∙ ap (λ vs. resume p q.frames (inside p q.i q.f q.b q.k vs q.act q.world)) q.next
 
   -- what the call on top comes to
   abbrev now : Held
@@ -232,7 +235,7 @@ module _ (p : Program) (readies : List (Option Ready)) (n : ℕ) (h : Held) (r :
   -- the call on top returns
   pub record Returned : Type 0 where
     pub world : World
-    pub run : r ≡ resume p q.frames (gives (fitted p.target q.f.sig.results e.hand) world)
+    pub run : r ≡ resume p q.frames (gives e.hand world)
     pub window : world.window ≡ e.window
     pub left : world.left ≡ n
     pub func : d.func ≡ q.top.func
@@ -330,7 +333,7 @@ module _ (p : Program) (readies : List (Option Ready)) (n : ℕ) (h : Held) (r :
           callee = known.callee;
           given = called_on call_words p q.f w.value w.act;
           run = run_left ∙ wait_run p (frame w) left q.act q.world w.world (called_on call_words p q.f w.value w.act) w.run (one_calls_words (called (run q.k p) p) p q.f w.value w.act w.world c) q.frames;
-          how = inr (c, known.on_words ∙ on_words w.value.op.family w.value.ty (ap is_call_words c), refl);
+          how = inr (c, known.on_words ∙ on_words w.value.op.family w.value.ty (ap is_call_words c), ap (λ xs. words_sent p (sig_of p.pkg (symbol_of w.value.aux)) xs w.act.out) (sym (m ∙ hand_is rv.args.items known.args)));
           fuel = (let a = its.fuel in let b = q.left in omega (arith, a, b));
           left = w.left ∙ q.left;
         }
@@ -367,7 +370,7 @@ module _ (p : Program) (readies : List (Option Ready)) (n : ℕ) (h : Held) (r :
 
   -- an edge is crossed
   cross : (c : Activation) (y : World) → IsAt p q.f q.b q.m g done ran.stage c y → c.stack ≡ q.act.stack → y.left ≡ q.world.left → (index sid : ℕ) → slice_get q.b.succs index ≡ Some sid → (edge : Edge) → IsReadyEdge q.f q.b index edge →
-      Crosses its.ready edge.block edge.place before behind x → r ≡ resume p q.frames (fitted_run p.target q.f.sig.results (onto (run q.k p) q.i q.f q.b index c y)) → Yields x
+      Crosses its.ready edge.block edge.place before behind x → r ≡ resume p q.frames (onto (run q.k p) q.i q.f q.b index c y) → Yields x
   cross c y at st le index sid succ edge known crosses runs = by_block (found_at sid q.f.blocks (number_there q.f sid (all_at q.f index sid q.b.succs succ ((formed.kinds Missing q.b has_b).block.succs))))
     where
       entering : (j : ℕ) (b : BlockRecord) (course : ReadyBlock) → edge.block ≡ Some j → slice_get q.f.blocks j ≡ Some b → b.id ≡ sid → slice_get its.ready.blocks.items j ≡ Some course → Yields x
@@ -437,8 +440,8 @@ module _ (p : Program) (readies : List (Option Ready)) (n : ℕ) (h : Held) (r :
               fuel = (let a = its.fuel in omega (arith, a, le));
             };
             next = ap (λ (z : Active). values_at b.values (drop z.next course.order.items)) (sym crosses_in.1);
-            run = runs ∙ ap (λ m. resume p q.frames (fitted_run p.target q.f.sig.results (run q.k p q.i c m (edge_place q.b index (block_of q.f (slice_index q.b.succs index))) y))) idx
-                ∙ ap (λ m. resume p q.frames (fitted_run p.target q.f.sig.results (run q.k p q.i c b.id m y))) (sym known.place);
+            run = runs ∙ ap (λ m. resume p q.frames (run q.k p q.i c m (edge_place q.b index (block_of q.f (slice_index q.b.succs index))) y)) idx
+                ∙ ap (λ m. resume p q.frames (run q.k p q.i c b.id m y)) (sym known.place);
             left = le ∙ q.left;
           }
 
@@ -452,25 +455,25 @@ module _ (p : Program) (readies : List (Option Ready)) (n : ℕ) (h : Held) (r :
 
   -- the end of the block
   on_end : (c : Activation) (y : World) → flat (called (run q.k p) p) p q.f left q.act q.world ≡ gives c y → IsAt p q.f q.b q.m g done ran.stage c y → c.stack ≡ q.act.stack → y.left ≡ q.world.left →
-      Leaves q.b.kind p.target q.f.sig its.ready its.course before behind x → Yields x
+      Leaves q.b.kind q.f.sig its.ready its.course before behind x → Yields x
   on_end c y flat_gives at st le leaves = by_kind q.b.kind refl control_kept.kind leaves
     where
       control_kept : KeepsControl q.f q.b
       control_kept = (formed.kinds Control q.b has_b).block
 
-      run_end : (k : Kind) → q.b.kind ≡ k → r ≡ resume p q.frames (fitted_run p.target q.f.sig.results (left_by k (run q.k p) p q.i q.f q.b c y))
+      run_end : (k : Kind) → q.b.kind ≡ k → r ≡ resume p q.frames (left_by k (run q.k p) p q.i q.f q.b c y)
       run_end k e =
           run_left
-          ∙ ap (λ (z : Run Activation). resume p q.frames (fitted_run p.target q.f.sig.results (bind z (λ c y. left_by q.b.kind (run q.k p) p q.i q.f q.b c y)))) flat_gives
-          ∙ ap (λ z. resume p q.frames (fitted_run p.target q.f.sig.results (left_by z (run q.k p) p q.i q.f q.b c y))) e
+          ∙ ap (λ (z : Run Activation). resume p q.frames (bind z (λ c y. left_by q.b.kind (run q.k p) p q.i q.f q.b c y))) flat_gives
+          ∙ ap (λ z. resume p q.frames (left_by z (run q.k p) p q.i q.f q.b c y)) e
 
       known : (n : ℕ) → IsDefinedAt q.f q.b n → table q.f ran.stage.numbers n ≡ numbers p q.f c.env n
       known m defined = end_known p learnt.set q.f q.b q.m (due_level q.f q.b (first_state q.b q.m)) due_class done order g ran.stage c y at m defined
 
-      zero_edge : (sid : ℕ) → slice_get q.b.succs 0 ≡ Some sid → r ≡ resume p q.frames (fitted_run p.target q.f.sig.results (onto (run q.k p) q.i q.f q.b 0 c y)) → Crosses its.ready its.course.edge.block its.course.edge.place before behind x → Yields x
+      zero_edge : (sid : ℕ) → slice_get q.b.succs 0 ≡ Some sid → r ≡ resume p q.frames (onto (run q.k p) q.i q.f q.b 0 c y) → Crosses its.ready its.course.edge.block its.course.edge.place before behind x → Yields x
       zero_edge sid s runs crosses = cross c y at st le 0 sid s its.course.edge block_known.edge crosses runs
 
-      first_edge : length q.b.succs ≡ 1 → (k : Kind) → r ≡ resume p q.frames (fitted_run p.target q.f.sig.results (onto (run q.k p) q.i q.f q.b 0 c y)) → Crosses its.ready its.course.edge.block its.course.edge.place before behind x → Yields x
+      first_edge : length q.b.succs ≡ 1 → (k : Kind) → r ≡ resume p q.frames (onto (run q.k p) q.i q.f q.b 0 c y) → Crosses its.ready its.course.edge.block its.course.edge.place before behind x → Yields x
       first_edge l k runs crosses = let s = get_there q.b.succs 0 (omega (arith, l)) in cross c y at st le 0 s.0 s.1 its.course.edge block_known.edge crosses runs
 
       -- of two edges the second is taken where the control is even
@@ -485,21 +488,21 @@ module _ (p : Program) (readies : List (Option Ready)) (n : ℕ) (h : Held) (r :
           number_even = ap (λ n. n % 2 == 0) control_number
 
           runs_by : (t : Bool) → (numbers p q.f c.env id % 2 == 0) ≡ t →
-              r ≡ resume p q.frames (fitted_run p.target q.f.sig.results (if not t then onto (run q.k p) q.i q.f q.b 0 c y else onto (run q.k p) q.i q.f q.b 1 c y))
+              r ≡ resume p q.frames (if not t then onto (run q.k p) q.i q.f q.b 0 c y else onto (run q.k p) q.i q.f q.b 1 c y)
           runs_by t k =
               run_end If e
-              ∙ ap (λ o. resume p q.frames (fitted_run p.target q.f.sig.results (if is_taken p q.f c o then onto (run q.k p) q.i q.f q.b 0 c y else onto (run q.k p) q.i q.f q.b 1 c y))) ctrl
-              ∙ ap (λ b. resume p q.frames (fitted_run p.target q.f.sig.results (if not b then onto (run q.k p) q.i q.f q.b 0 c y else onto (run q.k p) q.i q.f q.b 1 c y))) k
+              ∙ ap (λ o. resume p q.frames (if is_taken p q.f c o then onto (run q.k p) q.i q.f q.b 0 c y else onto (run q.k p) q.i q.f q.b 1 c y)) ctrl
+              ∙ ap (λ b. resume p q.frames (if not b then onto (run q.k p) q.i q.f q.b 0 c y else onto (run q.k p) q.i q.f q.b 1 c y)) k
 
           go : (t : Bool) → (numbers p q.f c.env id % 2 == 0) ≡ t → Crosses its.ready (chosen t its.course).block (chosen t its.course).place before behind x → Yields x
           go true k z = let s = get_there q.b.succs 1 (omega (arith, l)) in cross c y at st le 1 s.0 s.1 its.course.other block_known.other z (runs_by true k)
           go false k z = let s = get_there q.b.succs 0 (omega (arith, l)) in cross c y at st le 0 s.0 s.1 its.course.edge block_known.edge z (runs_by false k)
 
       returned : (id : ℕ) → q.b.control ≡ Some id → q.b.kind ≡ Ret → (x ≡ next.Return) → d ≡ before.call → goes.last ≡ ran.stage.numbers →
-          e.hand ≡ results_of (slice_get its.ready.values.items its.course.control) ran.stage.numbers p.target q.f.sig ran.stage.words.back → Yields x
+          e.hand ≡ results_of (slice_get its.ready.values.items its.course.control) ran.stage.numbers q.f.sig ran.stage.words → Yields x
       returned id ctrl kind k l m hand = yields_as next.Return k (record {
         world = y;
-        run = run_end Ret kind ∙ ap (λ rs. resume p q.frames (gives (fitted p.target q.f.sig.results rs) y)) (sym (hand ∙ results_taken p learnt.set q.f q.b q.m (due_level q.f q.b (first_state q.b q.m)) due_class done order g ran.stage c y at its.ready.values.items learnt.values id its.course.control ctrl (block_known.control ∙ ap (control_place q.f) ctrl) p.target refl));
+        run = run_end Ret kind ∙ ap (λ rs. resume p q.frames (gives rs y)) (sym (hand ∙ results_taken p learnt.set q.f q.b q.m (due_level q.f q.b (first_state q.b q.m)) due_class done order g ran.stage c y at learnt.places its.ready.values.items learnt.values id its.course.control ctrl (block_known.control ∙ ap (control_place q.f) ctrl)));
         window = at.window ∙ sym ran.window;
         left = le ∙ q.left;
         func = ap (λ (z : Active). z.func) l;
@@ -509,10 +512,10 @@ module _ (p : Program) (readies : List (Option Ready)) (n : ℕ) (h : Held) (r :
         long = ap length m ∙ at.long ∙ ap (λ n. n + 1) (sym values_length);
       })
 
-      by_kind : (k : Kind) → q.b.kind ≡ k → FitsKind q.b.kind q.b.succs q.b.control → Leaves q.b.kind p.target q.f.sig its.ready its.course before behind x → Yields x
-      by_kind k e fits leaves = go k e (let P : Kind → Type 0 = λ z. FitsKind z q.b.succs q.b.control in subst P e fits) (let P : Kind → Type 0 = λ z. Leaves z p.target q.f.sig its.ready its.course before behind x in subst P e leaves) q.b.control refl
+      by_kind : (k : Kind) → q.b.kind ≡ k → FitsKind q.b.kind q.b.succs q.b.control → Leaves q.b.kind q.f.sig its.ready its.course before behind x → Yields x
+      by_kind k e fits leaves = go k e (let P : Kind → Type 0 = λ z. FitsKind z q.b.succs q.b.control in subst P e fits) (let P : Kind → Type 0 = λ z. Leaves z q.f.sig its.ready its.course before behind x in subst P e leaves) q.b.control refl
         where
-          go : (k : Kind) → q.b.kind ≡ k → FitsKind k q.b.succs q.b.control → Leaves k p.target q.f.sig its.ready its.course before behind x → (o : Option ℕ) → q.b.control ≡ o → Yields x
+          go : (k : Kind) → q.b.kind ≡ k → FitsKind k q.b.succs q.b.control → Leaves k q.f.sig its.ready its.course before behind x → (o : Option ℕ) → q.b.control ≡ o → Yields x
           go Plain e fits leaves o w = first_edge fits.0 Plain (run_end Plain e) leaves
           go First e fits leaves o w = let s = get_there q.b.succs 0 (let l = fits.0 in omega (arith, l)) in zero_edge s.0 s.1 (run_end First e) leaves
           go If e fits leaves None w = absurd (no_control q.b.control fits.1 w)
@@ -526,12 +529,12 @@ module _ (p : Program) (readies : List (Option Ready)) (n : ℕ) (h : Held) (r :
   moved_so = go ran.after refl turns.0 ran.went
     where
       go : (z : After) → ran.after ≡ z → Comes ran.after (flat (called (run q.k p) p) p q.f left q.act q.world) (λ c y. IsAt p q.f q.b q.m g done ran.stage c y × (c.stack ≡ q.act.stack) × (y.left ≡ q.world.left)) ran.stage.window →
-          Goes ran.after q.b.kind p.target q.f.sig its.ready its.course before behind x → Yields x
+          Goes ran.after q.b.kind q.f.sig its.ready its.course before behind x → Yields x
       go z e comes went = by z e (let P : After → Type 0 = λ t. Comes t (flat (called (run q.k p) p) p q.f left q.act q.world) (λ c y. IsAt p q.f q.b q.m g done ran.stage c y × (c.stack ≡ q.act.stack) × (y.left ≡ q.world.left)) ran.stage.window in subst P e comes)
-          (let P : After → Type 0 = λ t. Goes t q.b.kind p.target q.f.sig its.ready its.course before behind x in subst P e went)
+          (let P : After → Type 0 = λ t. Goes t q.b.kind q.f.sig its.ready its.course before behind x in subst P e went)
         where
           by : (z : After) → ran.after ≡ z → Comes z (flat (called (run q.k p) p) p q.f left q.act q.world) (λ c y. IsAt p q.f q.b q.m g done ran.stage c y × (c.stack ≡ q.act.stack) × (y.left ≡ q.world.left)) ran.stage.window →
-              Goes z q.b.kind p.target q.f.sig its.ready its.course before behind x → Yields x
+              Goes z q.b.kind q.f.sig its.ready its.course before behind x → Yields x
           by after.On e (c, y, k, (at, st, le)) went = on_end c y k at st le went
           by (after.Trap t) e k went = yields_as (next.Trap t) went (after_trap (trapped t) k)
           by (after.Wild t) e k went = yields_as (next.Wild t) went (after_trap (wild t) k)

@@ -3,10 +3,10 @@ use Rattle.std.proofs.Common.{◌≡◌, ℕ, zero, suc, refl, ap, sym, ◌∙�
 use Rattle.std.specs.Prelude.{slice_get, position, is_some, if◌then◌else◌}
 use Rattle.bk_func.specs.Records.{ValueRecord, BlockRecord, FuncRecord}
 use Rattle.bk_func.specs.Edits.{block_of}
-use Rattle.bk_func.specs.Words.{numbers_at}
 use Rattle.bk_func.specs.Numbers.{Program, numbers}
 use Rattle.bk_func.specs.Effects.{Effect, call, call_words, effect_of, chain_from}
-use Rattle.bk_func.specs.Meaning.{Outcome, with_given, words_of_call, World, Run, gives, stops, bind, trapped, going, Activation, Entries, Calls, done_by, done_at, halted, fault_at, in_state, in_func, in_block, at_count, entered, first_state, performed, left_by, run, called, begun, begun_at, fitted_run, sig_of, symbol_of, without_memory, panic_divide, panic_shift}
+use Rattle.bk_func.specs.Symbols.{sig_of, symbol_of, panic_divide, panic_shift}
+use Rattle.bk_func.specs.Meaning.{Outcome, with_given, words_sent, World, Run, gives, stops, bind, trapped, going, Activation, Entries, Calls, done_by, done_at, halted, fault_at, in_state, in_func, in_block, at_count, entered, first_state, performed, left_by, run, called, begun, begun_at, without_memory}
 use Rattle.bk_func.proofs.Flat.{Laid, one, flat, bind_bind, bind_same, performed_flat}
 use Rattle.bk_mean.specs.declared.symbols.Callee.{Callee}
 use Rattle.bk_mean.specs.declared.symbols.Callee.TheVariants.{Func, PanicDivide, PanicShift, Missing}
@@ -37,7 +37,7 @@ after_call p fr results w = bind (one (gave results w) p fr.func fr.value fr.act
 -- the rest of a run, where the call on top comes to results
 abbrev pub resume : Program → List Frame → Run (List ℕ) → Run (List ℕ)
 resume p [] r = r
-resume p (fr ∷ frs) r = resume p frs (fitted_run p.target fr.func.sig.results (bind r (after_call p fr)))
+resume p (fr ∷ frs) r = resume p frs (bind r (after_call p fr))
 
 pub resume_stops : (p : Program) (frs : List Frame) (o : Outcome) (d : List ℕ) → resume p frs (stops o d) ≡ stops o d
 resume_stops p [] o d = refl
@@ -45,7 +45,7 @@ resume_stops p (fr ∷ frs) o d = resume_stops p frs o d
 
 -- the numbers that a value calls a function on
 abbrev pub called_on : Effect → Program → FuncRecord → ValueRecord → Activation → List ℕ
-called_on call_words p f v a = numbers_at p.target (sig_of p.pkg (symbol_of v.aux)).args a.out 0
+called_on call_words p f v a = words_sent p (sig_of p.pkg (symbol_of v.aux)) (map (numbers p f a.env) (without_memory v.args)) a.out
 called_on _ p f v a = map (numbers p f a.env) (without_memory v.args)
 
 pub one_acts : (calls : Calls) (p : Program) (f : FuncRecord) (v : ValueRecord) (a : Activation) (w : World) (x : Effect) → effect_of v.op.family v.ty ≡ Some x →
@@ -69,7 +69,7 @@ pub one_calls_words : (calls : Calls) (p : Program) (f : FuncRecord) (v : ValueR
 one_calls_words calls p f v a w e = one_acts calls p f v a w call_words e ∙ go (calls (symbol_of v.aux) (called_on call_words p f v a) a.stack w)
   where
     go : (r : Run (List ℕ)) →
-        bind (bind r (λ rs y. gives (record (with_given a v.id (words_of_call p.target (sig_of p.pkg (symbol_of v.aux)) (called_on call_words p f v a) rs)) { out = λ k. 0 }) y)) (λ c z. gives (in_state v.id c z) z)
+        bind (bind r (λ rs y. gives (record (with_given a v.id rs) { out = λ k. 0 }) y)) (λ c z. gives (in_state v.id c z) z)
         ≡ bind r (λ rs y. one (gave rs y) p f v a y)
     go (gives rs y) = sym (one_acts (gave rs y) p f v a y call_words e)
     go (stops o d) = refl
@@ -79,8 +79,8 @@ pub wait_run : (p : Program) (fr : Frame) (vs : List ValueRecord) (a : Activatio
     flat (called (run fr.fuel p) p) p fr.func vs a w ≡ bind (one (called (run fr.fuel p) p) p fr.func fr.value fr.act world) (λ d y. flat (called (run fr.fuel p) p) p fr.func fr.rest d y) →
     one (called (run fr.fuel p) p) p fr.func fr.value fr.act world ≡ bind (called (run fr.fuel p) p (symbol_of fr.value.aux) args fr.act.stack world) (λ rs y. one (gave rs y) p fr.func fr.value fr.act y) →
     (frs : List Frame) →
-    resume p frs (fitted_run p.target fr.func.sig.results (inside p fr.place fr.func fr.block fr.fuel vs a w)) ≡ resume p (fr ∷ frs) (called (run fr.fuel p) p (symbol_of fr.value.aux) args fr.act.stack world)
-wait_run p fr vs a w world args e q frs = ap (λ (r : Run (List ℕ)). resume p frs (fitted_run p.target fr.func.sig.results r)) (
+    resume p frs (inside p fr.place fr.func fr.block fr.fuel vs a w) ≡ resume p (fr ∷ frs) (called (run fr.fuel p) p (symbol_of fr.value.aux) args fr.act.stack world)
+wait_run p fr vs a w world args e q frs = ap (resume p frs) (
     ap (λ (r : Run Activation). bind r out) e
     ∙ bind_bind (one (called (run fr.fuel p) p) p fr.func fr.value fr.act world) (λ d y. flat (called (run fr.fuel p) p) p fr.func fr.rest d y) out
     ∙ ap (λ (r : Run Activation). bind r (λ d y. inside p fr.place fr.func fr.block fr.fuel fr.rest d y)) q
@@ -92,8 +92,8 @@ wait_run p fr vs a w world args e q frs = ap (λ (r : Run (List ℕ)). resume p 
 
 -- what a call gives goes to the one that waits for it
 pub return_run : (p : Program) (fr : Frame) (frs : List Frame) (rs : List ℕ) (y : World) (d : Activation) → one (gave rs y) p fr.func fr.value fr.act y ≡ gives d y →
-    resume p (fr ∷ frs) (gives rs y) ≡ resume p frs (fitted_run p.target fr.func.sig.results (inside p fr.place fr.func fr.block fr.fuel fr.rest d y))
-return_run p fr frs rs y d e = ap (λ (r : Run Activation). resume p frs (fitted_run p.target fr.func.sig.results (bind r (λ d y. inside p fr.place fr.func fr.block fr.fuel fr.rest d y)))) e
+    resume p (fr ∷ frs) (gives rs y) ≡ resume p frs (inside p fr.place fr.func fr.block fr.fuel fr.rest d y)
+return_run p fr frs rs y d e = ap (λ (r : Run Activation). resume p frs (bind r (λ d y. inside p fr.place fr.func fr.block fr.fuel fr.rest d y))) e
 
 -- no more blocks may be entered
 pub run_spent : (k : ℕ) (p : Program) (i : ℕ) (a : Activation) (id place : ℕ) (w : World) → w.left ≡ 0 → run k p i a id place w ≡ stops going w.window

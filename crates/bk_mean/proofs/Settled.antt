@@ -2,7 +2,6 @@
 use Rattle.std.proofs.Common.{◌≡◌, ℕ, refl, ap, sym, ◌∙◌, List, None}
 use Rattle.std.specs.Prelude.{slice_set, unwrap_or}
 use Rattle.bk_ops.specs.declared.types.Target.{Target}
-use Rattle.bk_ops.specs.declared.types.Ty.{Ty}
 use Rattle.bk_func.specs.Records.{ValueRecord, FuncRecord}
 use Rattle.bk_func.specs.Numbers.{Program, Env, loaded, number_by, made_of, read_at, address_by}
 use Rattle.bk_func.specs.Meaning.{fault_by}
@@ -12,9 +11,9 @@ use Rattle.bk_mean.specs.Seen.{seen_origin}
 use Rattle.bk_mean.specs.Step.{Stands, Sees, Follows, IsSettled, settled}
 
 -- a load's number is that of the bytes in the window of its state
-pub load_number : (p : Program) (f : FuncRecord) (e : Env) (m : ℕ → ℕ) (v : ValueRecord) (t : Target) (tys : List Ty) (args window : List ℕ) → Stands p f e t tys args → Sees f e window loaded v →
+pub load_number : (p : Program) (f : FuncRecord) (e : Env) (m : ℕ → ℕ) (v : ValueRecord) (t : Target) (args window : List ℕ) → Stands p e t args → Sees f e window loaded v →
     made_of v.op.family v.ty v.op.a (read_at t v window (address_by t v m)) ≡ number_by loaded p f e m v
-load_number p f e m v t tys args window s (n, q, w) =
+load_number p f e m v t args window s (n, q, w) =
     ap (λ (x : Target). made_of v.op.family v.ty v.op.a (read_at x v window (address_by x v m))) (sym s.target)
     ∙ ap (λ (d : List ℕ). made_of v.op.family v.ty v.op.a (read_at p.target v d (address_by p.target v m))) (sym w)
     ∙ ap (λ o. made_of v.op.family v.ty v.op.a (read_at p.target v (e.windows (unwrap_or o 0)) (address_by p.target v m))) (sym q)

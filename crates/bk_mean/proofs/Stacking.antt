@@ -4,20 +4,21 @@ use Rattle.std.specs.Prelude.{slice_get, slice_index, replicate, Vec}
 use Rattle.std.specs.declared.alloc.Global.{Global}
 use Rattle.std.specs.List.{AllZip, last_or}
 use Rattle.bk_func.specs.Records.{SigRecord, ValueRecord, BlockRecord, FuncRecord, PackageRecord}
-use Rattle.bk_func.specs.Words.{numbers_at, fitted}
-use Rattle.bk_func.specs.Numbers.{Program, room, values_of, natural, origin_of, result}
+use Rattle.bk_func.specs.Numbers.{Program, room, values_of, origin_of, result}
 use Rattle.bk_func.specs.Effects.{call, call_words, effect_of}
-use Rattle.bk_func.specs.Meaning.{World, Run, gives, stops, Activation, first_state, entered, fitted_run, run as runs, called, sig_of, symbol_of, without_memory}
+use Rattle.bk_func.specs.Symbols.{sig_of, symbol_of}
+use Rattle.bk_func.specs.Meaning.{World, Run, gives, stops, Activation, first_state, entered, run as runs, called, words_sent}
 use Rattle.bk_func.specs.Form.{IsFormed}
 use Rattle.bk_func.specs.Form.Text.{HasValue}
-use Rattle.bk_func.specs.Form.Signatures.{Setting}
+use Rattle.bk_func.specs.Form.Signatures.{Setting, whole}
 use Rattle.bk_func.proofs.Faults.{In}
 use Rattle.bk_mean.specs.Numbering.{place_in}
-use Rattle.bk_mean.specs.Ready.{AreReadyValues, AreReadyBlocks, IsReadyValue}
+use Rattle.bk_mean.specs.Ready.{AreReadyValues, AreReadyBlocks, IsReadyValue, kept_by}
 use Rattle.bk_mean.specs.Seen.{word_in}
 use Rattle.bk_mean.specs.Turned.{Stage, Ground}
 use Rattle.bk_mean.specs.Running.{Held}
 use Rattle.bk_mean.specs.declared.machine.Activation.{Activation as Active}
+use Rattle.bk_mean.specs.declared.ready.Kept.{Kept}
 use Rattle.bk_mean.specs.declared.ready.Ready.{Ready}
 use Rattle.bk_mean.specs.declared.ready.ReadyValue.{ReadyValue}
 use Rattle.bk_mean.specs.declared.ready.ReadyBlock.{ReadyBlock}
@@ -31,25 +32,26 @@ use Rattle.bk_mean.proofs.Doing.{Order, IsAt}
 use Rattle.bk_mean.proofs.Resuming.{Frame, inside, resume}
 
 -- what is kept of the results of a call: those values that take them, each by its place
-pub record KeepsResults (f : FuncRecord) (b : BlockRecord) (v : ValueRecord) (ks : List (ℕ × ℕ)) : Type 0 where
-  pub all : (u : ValueRecord) → IsResultOf f b v u → In (natural u.int, place_in f u.id) ks
-  pub only : (k : ℕ × ℕ) → In k ks → (u : ValueRecord) × IsResultOf f b v u × (k ≡ (natural u.int, place_in f u.id))
+pub record KeepsResults (f : FuncRecord) (b : BlockRecord) (v : ValueRecord) (ks : List Kept) : Type 0 where
+  pub all : (u : ValueRecord) → IsResultOf f b v u → In (kept_by f u) ks
+  pub only : (k : Kept) → In k ks → (u : ValueRecord) × IsResultOf f b v u × (k ≡ kept_by f u)
 
 -- a function in form that was made ready
 pub record Learnt (p : Program) (readies : List (Option Ready)) (i : ℕ) (f : FuncRecord) (r : Ready) : Type 0 where
+  pub places : p.places ≡ whole
   pub func : slice_get p.pkg.funcs i ≡ Some f
   pub ready : slice_get readies i ≡ Some (Some r)
   pub set : Setting
   pub formed : IsFormed set f
   pub values : AreReadyValues p.pkg f (values_of f) r.values.items
   pub kept : (b : BlockRecord) (v : ValueRecord) → HasValue f b v → (effect_of v.op.family v.ty ≡ Some call) ⊎ (effect_of v.op.family v.ty ≡ Some call_words) →
-      (ks : Vec (ℕ × ℕ) Global) × (slice_get r.kept.items (place_in f v.id) ≡ Some ks) × KeepsResults f b v ks.items
+      (ks : Vec Kept Global) × (slice_get r.kept.items (place_in f v.id) ≡ Some ks) × KeepsResults f b v ks.items
   pub blocks : AreReadyBlocks f f.blocks (length f.blocks) r.blocks.items
   pub order : (j : ℕ) (b : BlockRecord) (c : ReadyBlock) → slice_get f.blocks j ≡ Some b → slice_get r.blocks.items j ≡ Some c → (m : ℕ) → Arrives f b m →
       Order set f b m (due_level f b (first_state b m)) due_class (values_at b.values c.order.items)
 
-abbrev pub ground : Program → FuncRecord → List ℕ → Ground
-ground p f args = record { target = p.target; types = f.sig.args; args = args }
+abbrev pub ground : Program → List ℕ → Ground
+ground p args = record { target = p.target; args = args }
 
 -- a call is in a block, where some values were done and others are left
 pub record Sits (p : Program) (readies : List (Option Ready)) (k i : ℕ) (f : FuncRecord) (b : BlockRecord) (m : ℕ) (pre rest : List ValueRecord) (c : Active) (front args : List ℕ) (words : CallWords) (window : List ℕ) (a : Activation) (w : World) : Type 0 where
@@ -61,7 +63,7 @@ pub record Sits (p : Program) (readies : List (Option Ready)) (k i : ℕ) (f : F
   pub its : slice_get ready.blocks.items c.block ≡ Some course
   pub arrives : Arrives f b m
   pub parts : values_at b.values course.order.items ≡ pre ++ rest
-  pub at : IsAt p f b m (ground p f args) pre (record { numbers = front; window = window; words = words }) a w
+  pub at : IsAt p f b m (ground p args) pre (record { numbers = front; window = window; words = words }) a w
   pub stack : c.stack ≡ a.stack
   pub fuel : w.left ≤ k
 
@@ -74,26 +76,26 @@ pub record Suspended (p : Program) (readies : List (Option Ready)) (fr : Frame) 
   pub stands : HasValue fr.func fr.block fr.value
   pub by : c.called_by ≡ place_in fr.func fr.value.id
 
--- its words, where it called a function on these arguments: those that were written for the call are taken
-abbrev pub WordsTaken : Program → Frame → CallWords → CallWords → FuncRecord → List ℕ → Type 0
-WordsTaken p fr before now callee given =
+-- its words: those that were written for the call are taken
+abbrev pub WordsTaken : Frame → CallWords → CallWords → Type 0
+WordsTaken fr before now =
     ((effect_of fr.value.op.family fr.value.ty ≡ Some call) × (now ≡ before))
-    ⊎ ((effect_of fr.value.op.family fr.value.ty ≡ Some call_words) × ((k : ℕ) → word_in now.out k ≡ 0) × (now.back ≡ before.back) × (sig_of p.pkg (symbol_of fr.value.aux) ≡ callee.sig)
-    × (given ≡ fitted p.target callee.sig.args (numbers_at p.target callee.sig.args fr.act.out 0)))
+    ⊎ ((effect_of fr.value.op.family fr.value.ty ≡ Some call_words) × ((k : ℕ) → word_in now.out k ≡ 0) × (now.back ≡ before.back) × (now.regs ≡ before.regs))
 
-pub record IsWaiting (p : Program) (readies : List (Option Ready)) (n : ℕ) (fr : Frame) (c : Active) (front args : List ℕ) (callee : FuncRecord) (given : List ℕ) : Type 0 where
+pub record IsWaiting (p : Program) (readies : List (Option Ready)) (n : ℕ) (fr : Frame) (c : Active) (front args : List ℕ) (callee : FuncRecord) : Type 0 where
   pub window : List ℕ
   pub world : World
   pub words : CallWords
   pub waits : Suspended p readies fr c front args words window world
-  pub taken : WordsTaken p fr words c.words callee given
+  pub taken : WordsTaken fr words c.words
+  pub sig : sig_of p.pkg (symbol_of fr.value.aux) ≡ callee.sig
   pub fuel : n ≤ fr.fuel
 
--- calls that wait, one upon the other, the last of them for what a function gives on these arguments
-pub data Stacked (p : Program) (readies : List (Option Ready)) (n : ℕ) : List Frame → List Active → List ℕ → FuncRecord → List ℕ → Type 0 where
-  bottom : (g : FuncRecord) (given : List ℕ) → Stacked p readies n [] [] [] g given
-  more : (frs : List Frame) (cs : List Active) (ns : List ℕ) (fr : Frame) (c : Active) (front args : List ℕ) (g : FuncRecord) (given : List ℕ) → Stacked p readies n frs cs ns fr.func args →
-      c.base ≡ length ns → IsWaiting p readies n fr c front args g given → Stacked p readies n (fr ∷ frs) (cs ++ c ∷ []) (ns ++ (front ++ args)) g given
+-- calls that wait, one upon the other, the last of them for what a function gives
+pub data Stacked (p : Program) (readies : List (Option Ready)) (n : ℕ) : List Frame → List Active → List ℕ → FuncRecord → Type 0 where
+  bottom : (g : FuncRecord) → Stacked p readies n [] [] [] g
+  more : (frs : List Frame) (cs : List Active) (ns : List ℕ) (fr : Frame) (c : Active) (front args : List ℕ) (g : FuncRecord) → Stacked p readies n frs cs ns fr.func →
+      c.base ≡ length ns → IsWaiting p readies n fr c front args g → Stacked p readies n (fr ∷ frs) (cs ++ c ∷ []) (ns ++ (front ++ args)) g
 
 -- a machine is inside a block
 pub record Within (p : Program) (readies : List (Option Ready)) (n : ℕ) (h : Held) (r : Run (List ℕ)) : Type 0 where
@@ -115,10 +117,10 @@ pub record Within (p : Program) (readies : List (Option Ready)) (n : ℕ) (h : H
   pub has_calls : h.calls ≡ calls ++ top ∷ []
   pub has_numbers : h.numbers ≡ numbers ++ (front ++ args)
   pub base : top.base ≡ length numbers
-  pub stacked : Stacked p readies n frames calls numbers f args
+  pub stacked : Stacked p readies n frames calls numbers f
   pub sits : Sits p readies k i f b m pre rest top front args top.words h.window act world
   pub next : rest ≡ values_at b.values (drop top.next sits.course.order.items)
-  pub run : r ≡ resume p frames (fitted_run p.target f.sig.results (inside p i f b k rest act world))
+  pub run : r ≡ resume p frames (inside p i f b k rest act world)
   pub left : world.left ≡ n
 
 -- a machine is at the entry of a block
@@ -140,10 +142,10 @@ pub record Heads (p : Program) (readies : List (Option Ready)) (n : ℕ) (h : He
   pub has_calls : h.calls ≡ calls ++ top ∷ []
   pub has_numbers : h.numbers ≡ numbers ++ (front ++ args)
   pub base : top.base ≡ length numbers
-  pub stacked : Stacked p readies n frames calls numbers f args
+  pub stacked : Stacked p readies n frames calls numbers f
   pub sits : Sits p readies k i f b act.memory [] rest top front args top.words h.window (entered p f b place act world) world
   pub next : rest ≡ values_at b.values (drop top.next sits.course.order.items)
-  pub run : r ≡ resume p frames (fitted_run p.target f.sig.results (runs k p i act b.id place world))
+  pub run : r ≡ resume p frames (runs k p i act b.id place world)
   pub left : world.left ≡ n
 
 -- a machine calls a function: the call that waits for it is on top
@@ -159,12 +161,12 @@ pub record Calling (p : Program) (readies : List (Option Ready)) (n : ℕ) (h : 
   pub has_calls : h.calls ≡ calls ++ top ∷ []
   pub has_numbers : h.numbers ≡ numbers ++ (front ++ args)
   pub base : top.base ≡ length numbers
-  pub stacked : Stacked p readies n frames calls numbers frame.func args
+  pub stacked : Stacked p readies n frames calls numbers frame.func
   pub waits : Suspended p readies frame top front args top.words h.window world
   pub callee : what ≡ callee_of p.pkg (symbol_of frame.value.aux)
   pub given : List ℕ
   pub run : r ≡ resume p (frame ∷ frames) (called (runs frame.fuel p) p (symbol_of frame.value.aux) given frame.act.stack world)
   pub how : ((effect_of frame.value.op.family frame.value.ty ≡ Some call) × (on_words ≡ false) × (h.hand ≡ given))
-      ⊎ ((effect_of frame.value.op.family frame.value.ty ≡ Some call_words) × (on_words ≡ true) × (given ≡ numbers_at p.target (sig_of p.pkg (symbol_of frame.value.aux)).args frame.act.out 0))
+      ⊎ ((effect_of frame.value.op.family frame.value.ty ≡ Some call_words) × (on_words ≡ true) × (given ≡ words_sent p (sig_of p.pkg (symbol_of frame.value.aux)) h.hand frame.act.out))
   pub fuel : n ≤ frame.fuel
   pub left : world.left ≡ n

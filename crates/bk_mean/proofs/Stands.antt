@@ -14,7 +14,7 @@ use Rattle.bk_func.specs.Form.Signatures.{Setting}
 use Rattle.bk_func.proofs.Faults.{In}
 use Rattle.bk_mean.proofs.Named.{IsNamed, to_contains, got_in, found_value, got_index}
 use Rattle.bk_mean.proofs.Dominance.{Dominates, dominates_itself, dominates_onward, one_dominates, defined_from, defined_here, home, arguments_defined}
-use Rattle.bk_mean.proofs.Roles.{is_memory_copy-true, is_memory_copy-false, memory_copy, result_args, copy_args, result_families, first_argument}
+use Rattle.bk_mean.proofs.Roles.{is_memory_copy-true, is_memory_copy-false, memory_copy, result_args, copy_args, result_calls, calls_result, first_argument}
 use Rattle.bk_mean.proofs.Formed.{Sound}
 use Rattle.bk_mean.proofs.Ranks.{IsLive, rank, rank_below_room, argument_falls, needs_onward}
 
@@ -100,9 +100,8 @@ last_named _ v n e = rw e refl
 named_at : (s : Setting) (f : FuncRecord) → Sound s f → (b : BlockRecord) (v : ValueRecord) → HasValue f b v → ¬ (v.op.family ≡ op.Copy) → (k n : ℕ) → NamesAt v k → slice_get v.args k ≡ Some n →
     memory_arg (origin_of v.op.family) v ≡ Some n
 named_at s f h b v i c k n (inl (m, z)) e = absurd (c m.0)
-named_at s f h b v i c k n (inr (inl (o, z))) e = rw o (ap (slice_get v.args) (sym z) ∙ e)
-named_at s f h b v i c k n (inr (inr (inl (o, z)))) e = rw o (ap (slice_get v.args) (sym z) ∙ e)
-named_at s f h b v i c k n (inr (inr (inr (m, z)))) e =
+named_at s f h b v i c k n (inr (inl (o, z))) e = ap (λ (q : Origin). memory_arg q v) (calls_result v.op.family o) ∙ ap (slice_get v.args) (sym z) ∙ e
+named_at s f h b v i c k n (inr (inr (m, z))) e =
     last_named (origin_of v.op.family) v (λ r. let q = (result_args s f b v (h.rows b v i) r).1 in absurd cc) m ∙ last_got v.args None k n z e
 
 -- a value that is neither a phi nor a copy and names a state in form names it in the meaning
@@ -116,16 +115,12 @@ pub arg_named : (s : Setting) (f : FuncRecord) → Sound s f → (b : BlockRecor
     (k : ℕ) × NamesAt v k × (slice_get v.args k ≡ Some n)
 arg_named s f h b v i n e = go (origin_of v.op.family) refl e
   where
-    by_result : (v.op.family ≡ op.SelectN) ⊎ (v.op.family ≡ op.ResWord) → slice_get v.args 0 ≡ Some n → (k : ℕ) × NamesAt v k × (slice_get v.args k ≡ Some n)
-    by_result (inl o) d = (0, inr (inl (o, refl)), d)
-    by_result (inr o) d = (0, inr (inr (inl (o, refl))), d)
-
     by_last : (t : Bool) → (info_of v.op).memory ≡ t → (if t then last_or None v.args else None) ≡ Some n → (k : ℕ) × NamesAt v k × (slice_get v.args k ≡ Some n)
-    by_last true m d = let r = got_last v.args n d in (r.0, inr (inr (inr (m, r.1))), r.2)
+    by_last true m d = let r = got_last v.args n d in (r.0, inr (inr (m, r.1)), r.2)
     by_last false m d = absurd cc
 
     go : (o : Origin) → origin_of v.op.family ≡ o → memory_arg o v ≡ Some n → (k : ℕ) × NamesAt v k × (slice_get v.args k ≡ Some n)
-    go result q d = by_result (result_families v q) d
+    go result q d = (0, inr (inl (result_calls v q, refl)), d)
     go phi q d = by_last (info_of v.op).memory refl d
     go _ q d = by_last (info_of v.op).memory refl d
 

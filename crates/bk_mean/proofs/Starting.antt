@@ -8,10 +8,10 @@ use Rattle.std.proofs.lemmas.Option.{slice_get_within}
 use Rattle.bk_ops.specs.declared.family.Family.{Family}
 use Rattle.bk_ops.specs.declared.family.Family.TheVariants as op
 use Rattle.bk_func.specs.Records.{SigRecord, ValueRecord, BlockRecord, FuncRecord, PackageRecord}
-use Rattle.bk_func.specs.Words.{numbers_at, fitted}
 use Rattle.bk_func.specs.Numbers.{Program, numbers, room, result, origin_of}
 use Rattle.bk_func.specs.Effects.{call, call_words, effect_of}
-use Rattle.bk_func.specs.Meaning.{World, Run, gives, stops, trapped, Activation, first_state, entered, entry_id, fresh, fitted_run, run, begun, begun_in, sig_of, sig_of_some, symbol_of, number_named, panic_divide, panic_shift}
+use Rattle.bk_func.specs.Symbols.{sig_of, sig_of_some, symbol_of, panic_divide, panic_shift}
+use Rattle.bk_func.specs.Meaning.{World, Run, gives, stops, trapped, Activation, first_state, entered, entry_id, fresh, run, begun, begun_in, number_named}
 use Rattle.bk_func.specs.declared.form.FormKind.TheVariants.{Missing, Control}
 use Rattle.bk_func.specs.Form.{IsFormed}
 use Rattle.bk_func.specs.Form.Text.{HasBlock, HasValue, Defines, IsEntry, IsPhi}
@@ -32,7 +32,7 @@ use Rattle.bk_mean.specs.declared.symbols.Callee.TheVariants.{Func, PanicDivide,
 use Rattle.bk_mean.proofs.Named.{to_in, to_contains, got_in}
 use Rattle.bk_mean.proofs.Formed.{Sound, sound}
 use Rattle.bk_mean.proofs.Dominance.{entry_reached, reached_block}
-use Rattle.bk_mean.proofs.Roles.{result_args, result_families, first_argument}
+use Rattle.bk_mean.proofs.Roles.{result_args, result_calls, first_argument}
 use Rattle.bk_mean.proofs.Edges.{phi_entered}
 use Rattle.bk_mean.proofs.Arranged.{values_at}
 use Rattle.bk_mean.proofs.Along.{IsShown, entered_shown}
@@ -64,7 +64,7 @@ first_block (b ∷ bs) n = (b, refl, refl)
 
 phi_arity : (s : Setting) (f : FuncRecord) (b : BlockRecord) (v : ValueRecord) (g : Family) → HasArity s f b v g → g ≡ op.Phi → length v.args ≡ length b.preds
 unfolding HasArity
-phi_arity s f b v g h e = (let P : Family → Type 0 = λ z. HasArity s f b v z in subst P e h)
+phi_arity s f b v g h e = (let P : Family → Type 0 = λ z. HasArity s f b v z in subst P e h).0
 
 no_args : (xs : List ℕ) → length xs ≡ 0 → slice_get xs 0 ≡ None
 no_args [] e = refl
@@ -93,7 +93,7 @@ module _ (s : Setting) (f : FuncRecord) (formed : IsFormed s f) (p : Program) (b
       no_result : (u : ValueRecord) → HasValue f b u → origin_of u.op.family ≡ result → IsReady b [] u → ⊥
       no_result u i o ready =
           let got = first_argument u 0 (result_args s f b u (h.rows b u i) o).0 in
-          let t = (h.memory b u i).call (result_families u o) (slice_index u.args 0) got in
+          let t = (h.memory b u i).call (result_calls u o) (slice_index u.args 0) got in
           ready t.0 (result_takes s f h b t.0 u (i.0, t.1) (i, o, sym t.2))
 
       of_phi : (u : ValueRecord) → HasValue f b u → u.id ≡ n → IsPhi u → m n ≡ numbers p f (entered p f b 0 a w).env n
@@ -112,38 +112,35 @@ module _ (s : Setting) (f : FuncRecord) (formed : IsFormed s f) (p : Program) (b
           by (inr (inr q)) = absurd (no_result u (has_b, i) q.0 q.1)
 
 -- a call that begins stands at the entry of its function
-pub begun_heads : (p : Program) (readies : List (Option Ready)) (n i k stack : ℕ) (f : FuncRecord) (r : Ready) → Learnt p readies i f r → (frs : List Frame) (given : List ℕ) (a b : Held) → Stacked p readies n frs a.calls a.numbers f (fitted p.target f.sig.args given) →
-    fitted p.target f.sig.args a.hand ≡ fitted p.target f.sig.args given → Begun p.target i f.sig (length r.values.items) stack a b → (w : World) → w.window ≡ a.window → w.left ≡ n → n ≤ k →
-    Heads p readies n b (resume p frs (fitted_run p.target f.sig.results (run k p i (fresh (fitted p.target f.sig.args given) stack) (entry_id f.blocks) 0 w)))
-begun_heads p readies n i k stack f r learnt frs given a b stacked same begun w win left fuel = at_entry (first_block f.blocks learnt.formed.blocks)
+pub begun_heads : (p : Program) (readies : List (Option Ready)) (n i k stack : ℕ) (f : FuncRecord) (r : Ready) → Learnt p readies i f r → (frs : List Frame) (a b : Held) → Stacked p readies n frs a.calls a.numbers f →
+    Begun i (length r.values.items) stack a b → (w : World) → w.window ≡ a.window → w.left ≡ n → n ≤ k →
+    Heads p readies n b (resume p frs (run k p i (fresh a.hand stack) (entry_id f.blocks) 0 w))
+begun_heads p readies n i k stack f r learnt frs a b stacked begun w win left fuel = at_entry (first_block f.blocks learnt.formed.blocks)
   where
-    args : List ℕ
-    args = fitted p.target f.sig.args given
-
     values_length : length r.values.items ≡ room f
     values_length = zip_length _ _ r.values.items learnt.values
 
-    at_entry : (c : BlockRecord) × (slice_get f.blocks 0 ≡ Some c) × (entry_id f.blocks ≡ c.id) → Heads p readies n b (resume p frs (fitted_run p.target f.sig.results (run k p i (fresh (fitted p.target f.sig.args given) stack) (entry_id f.blocks) 0 w)))
+    at_entry : (c : BlockRecord) × (slice_get f.blocks 0 ≡ Some c) × (entry_id f.blocks ≡ c.id) → Heads p readies n b (resume p frs (run k p i (fresh a.hand stack) (entry_id f.blocks) 0 w))
     at_entry (c, entry, id) = in_course (get_there r.blocks.items 0 (let l = learnt.blocks.length in let q = slice_get_within f.blocks 0 c entry in omega (arith, l, q)))
       where
-        in_course : (course : ReadyBlock) × (slice_get r.blocks.items 0 ≡ Some course) → Heads p readies n b (resume p frs (fitted_run p.target f.sig.results (run k p i (fresh (fitted p.target f.sig.args given) stack) (entry_id f.blocks) 0 w)))
+        in_course : (course : ReadyBlock) × (slice_get r.blocks.items 0 ≡ Some course) → Heads p readies n b (resume p frs (run k p i (fresh a.hand stack) (entry_id f.blocks) 0 w))
         in_course (course, got) = record {
           frames = frs;
           calls = a.calls;
           numbers = a.numbers;
           top = record { func = i; base = length a.numbers; block = 0; next = 0; called_by = 0; stack = stack; words = begun.words };
           front = replicate (length r.values.items + 1) 0;
-          args = fitted p.target f.sig.args given;
+          args = a.hand;
           k = k;
           i = i;
           f = f;
           b = c;
           place = 0;
           rest = values_at c.values course.order.items;
-          act = fresh (fitted p.target f.sig.args given) stack;
+          act = fresh a.hand stack;
           world = w;
           has_calls = begun.calls;
-          has_numbers = begun.numbers ∙ ap (λ xs. a.numbers ++ (replicate (length r.values.items + 1) 0 ++ xs)) same;
+          has_numbers = begun.numbers;
           base = refl;
           stacked = stacked;
           sits = record {
@@ -157,22 +154,22 @@ begun_heads p readies n i k stack f r learnt frs given a b stacked same begun w 
             parts = refl;
             at = record {
               target = refl;
-              types = refl;
               args = refl;
-              knows = knows_first learnt.set f learnt.formed p c entry (fresh (fitted p.target f.sig.args given) stack) w (table f (replicate (length r.values.items + 1) 0)) (λ x. zeros_index (length r.values.items + 1) (place_in f x));
+              knows = knows_first learnt.set f learnt.formed p c entry (fresh a.hand stack) w (table f (replicate (length r.values.items + 1) 0)) (λ x. zeros_index (length r.values.items + 1) (place_in f x));
               blank = λ d u j e t. zeros_index (length r.values.items + 1) (place_in f u.id);
               long = zeros_length (length r.values.items + 1) ∙ ap (λ x. x + 1) values_length;
               memory = refl;
-              shown = entered_shown p f c 0 (fresh (fitted p.target f.sig.args given) stack) w;
+              shown = entered_shown p f c 0 (fresh a.hand stack) w;
               window = win ∙ sym begun.window;
               out = sym (fun_ext begun.out);
               back = sym (fun_ext begun.back);
+              regs = sym begun.regs;
             };
             stack = refl;
             fuel = (let l = left in omega (arith, l, fuel));
           };
           next = refl;
-          run = ap (λ z. resume p frs (fitted_run p.target f.sig.results (run k p i (fresh (fitted p.target f.sig.args given) stack) z 0 w))) id;
+          run = ap (λ z. resume p frs (run k p i (fresh a.hand stack) z 0 w)) id;
           left = left;
         }
 
@@ -180,13 +177,13 @@ begun_heads p readies n i k stack f r learnt frs given a b stacked same begun w 
 pub begun_traps : (p : Program) (i : ℕ) (f : FuncRecord) (args : List ℕ) (stack k : ℕ) (w : World) → slice_get p.pkg.funcs i ≡ Some f → nat_lt stack (slice_index p.frames i) ≡ true → begun (run k p) p i args stack w ≡ stops (trapped 5) w.window
 begun_traps p i f args stack k w e t =
     ap (λ o. begun_in o (run k p) p i args stack w) e
-    ∙ ap (λ z. if z then stops (trapped 5) w.window else fitted_run p.target f.sig.results (run k p i (fresh (fitted p.target f.sig.args args) (stack - slice_index p.frames i)) (entry_id f.blocks) 0 w)) t
+    ∙ ap (λ z. if z then stops (trapped 5) w.window else (run k p i (fresh args (stack - slice_index p.frames i)) (entry_id f.blocks) 0 w)) t
 
 pub begun_enters : (p : Program) (i : ℕ) (f : FuncRecord) (args : List ℕ) (stack k : ℕ) (w : World) → slice_get p.pkg.funcs i ≡ Some f → nat_lt stack (slice_index p.frames i) ≡ false →
-    begun (run k p) p i args stack w ≡ fitted_run p.target f.sig.results (run k p i (fresh (fitted p.target f.sig.args args) (stack - slice_index p.frames i)) (entry_id f.blocks) 0 w)
+    begun (run k p) p i args stack w ≡ (run k p i (fresh args (stack - slice_index p.frames i)) (entry_id f.blocks) 0 w)
 begun_enters p i f args stack k w e t =
     ap (λ o. begun_in o (run k p) p i args stack w) e
-    ∙ ap (λ z. if z then stops (trapped 5) w.window else fitted_run p.target f.sig.results (run k p i (fresh (fitted p.target f.sig.args args) (stack - slice_index p.frames i)) (entry_id f.blocks) 0 w)) t
+    ∙ ap (λ z. if z then stops (trapped 5) w.window else (run k p i (fresh args (stack - slice_index p.frames i)) (entry_id f.blocks) 0 w)) t
 
 -- the function that a name calls is the one whose signature it has
 

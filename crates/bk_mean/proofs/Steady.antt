@@ -15,7 +15,7 @@ use Rattle.bk_func.proofs.Unique.{inputs_of, Ranked}
 use Rattle.bk_func.proofs.Frame.{ReadsAlike, ReadsAt, frame}
 use Rattle.bk_mean.proofs.Named.{to_contains, got_in, found_value}
 use Rattle.bk_mean.proofs.Dominance.{Dominates, one_dominates, defined_from, defined_here, Home, home, arguments_defined}
-use Rattle.bk_mean.proofs.Roles.{no_phi, load_args, result_args, result_families, first_argument}
+use Rattle.bk_mean.proofs.Roles.{is_result, no_call_result, no_phi, load_args, result_args, result_calls, first_argument}
 use Rattle.bk_mean.proofs.Formed.{Sound}
 use Rattle.bk_mean.proofs.Ranks.{rank, rank_below_room, argument_falls, input_taken, live_there, needs_onward}
 use Rattle.bk_mean.proofs.Stands.{state_named, state_defined, needs_named}
@@ -118,7 +118,7 @@ same_given s f h c P Q e d z g n l q o =
     got = first_argument q.value 0 (result_args s f q.block q.value (h.rows q.block q.value q.stands) o).0
 
     own : Defines q.block (slice_index q.value.args 0)
-    own = (h.memory q.block q.value q.stands).call (result_families q.value o) (slice_index q.value.args 0) got
+    own = (h.memory q.block q.value q.stands).call (result_calls q.value o) (slice_index q.value.args 0) got
 
     needed : (u : ValueRecord) → HasValue f c u → u.id ≡ slice_index q.value.args 0 → Contains c.values q.value × Needs c q.value u
     needed u i k =
@@ -133,8 +133,7 @@ pub load_state : (s : Setting) (f : FuncRecord) → Sound s f → (b : BlockReco
     (m : ℕ) × Names f v m × IsStateIn f b m
 load_state s f h b v i r o =
     let t = load_args s f b v (h.rows b v i) (ap is_load o) in
-    (h.memory b v i).names 1 (λ p. let e = ap origin_of p in absurd cc) (λ p. let e = ap origin_of p in absurd cc) (λ p. let e = ap origin_of p in absurd cc)
-    (λ p. let e = ap origin_of p in absurd cc) r (inr (inr (inr (t.1, omega (arith, t.0))))) (omega (arith, t.0))
+    (h.memory b v i).names 1 (λ p. let e = ap origin_of p in absurd cc) (λ p. let e = ap origin_of p in absurd cc) (no_call_result v (ap is_result o)) r (inr (inr (t.1, omega (arith, t.0)))) (omega (arith, t.0))
 
 same_window : (s : Setting) (f : FuncRecord) → Sound s f → (c : BlockRecord) (P Q : ℕ → Type 0) (e d : Env) → Agree e d P Q → Differs f c P Q → (n : ℕ) → Stays f c P Q n → (q : Home f c n) →
     origin_of q.value.op.family ≡ loaded → e.windows (unwrap_or (state_of f q.value) 0) ≡ d.windows (unwrap_or (state_of f q.value) 0)

@@ -6,6 +6,7 @@ use Rattle.bk_ops.specs.Formulas.{Formula, no_value, formula, arm_formula, rv_fo
 use Rattle.bk_ops.specs.Values.{valued}
 use Rattle.bk_ops.specs.declared.types.Target.{Target}
 use Rattle.bk_ops.specs.declared.types.Ty.{Ty}
+use Rattle.bk_ops.specs.Families.{is_call_result}
 use Rattle.bk_ops.specs.declared.family.Family.{Family}
 use Rattle.bk_ops.specs.declared.family.Family.TheVariants as op
 use Rattle.bk_ops.specs.declared.family.ArmOp.TheVariants as arm
@@ -23,7 +24,7 @@ use Rattle.bk_func.proofs.Flat.{one}
 use Rattle.bk_func.proofs.Unique.{solved}
 use Rattle.bk_mean.proofs.Named.{Once, to_in, to_contains, got_in, found_value, in_either, borne}
 use Rattle.bk_mean.proofs.Dominance.{defined_here, arguments_defined}
-use Rattle.bk_mean.proofs.Roles.{result_args, result_families, first_argument}
+use Rattle.bk_mean.proofs.Roles.{result_args, result_calls, first_argument}
 use Rattle.bk_mean.proofs.Formed.{Sound}
 use Rattle.bk_mean.proofs.Ranks.{IsLive, rank, ranks}
 use Rattle.bk_mean.proofs.Along.{IfGives, done_steady}
@@ -67,8 +68,10 @@ blank op.Move ty a b n t e = inr (refl, refl)
 blank op.PanicBounds ty a b n t e = inr (refl, refl)
 blank op.StaticLECall ty a b n t e = inr (refl, refl)
 blank op.Call ty a b n t e = inr (refl, refl)
+blank op.CallRegs ty a b n t e = inr (refl, refl)
 blank op.OutWord ty a b n t e = inr (refl, refl)
 blank op.RetWord ty a b n t e = inr (refl, refl)
+blank op.RetRegs ty a b n t e = inr (refl, refl)
 blank op.Trap ty a b n t e = inr (refl, refl)
 blank op.SelectN ty a b n t e = inl refl
 blank (op.Arm _) ty a b n t e = absurd cc
@@ -196,10 +199,10 @@ module _ (s : Setting) (f : FuncRecord) (b : BlockRecord) (level class : ValueRe
           pick t it d (inr (inl q)) = inr (inr (u, i, e, o, sym d ∙ ap (λ (z : ValueRecord). z.id) (sym q)))
           pick t it d (inr (inr j)) = elim j [ ]
 
-          call : ((v : (u.op.family ≡ op.SelectN) ⊎ (u.op.family ≡ op.ResWord)) → (x : ℕ) → slice_get u.args 0 ≡ Some x → Defines b x) →
+          call : (is_call_result u.op.family ≡ true → (x : ℕ) → slice_get u.args 0 ≡ Some x → Defines b x) →
               IsKnown f b pre n ⊎ (v.id ≡ n) ⊎ ((u : ValueRecord) × HasValue f b u × (u.id ≡ n) × (origin_of u.op.family ≡ result) × (slice_index u.args 0 ≡ v.id))
           call k =
-              let t = k (result_families u o) (slice_index u.args 0) got in
+              let t = k (result_calls u o) (slice_index u.args 0) got in
               let P : ℕ → Type 0 = λ y. In y u.args in
               let taken : IsTakenBy b t.0 u = (t.1, i.1, (λ q. let x = ap origin_of q in absurd cc), to_contains t.0.id u.args (subst P (sym t.2) (got_in u.args 0 (slice_index u.args 0) got))) in
               pick t.0 (c.stands.0, t.1) t.2 (in_either t.0 pre (v ∷ []) (ready t.0 taken))

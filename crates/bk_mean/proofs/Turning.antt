@@ -16,8 +16,7 @@ use Rattle.bk_mean.specs.declared.turn.Next.{Next}
 use Rattle.bk_mean.specs.declared.turn.Next.TheVariants as next
 use Rattle.bk_mean.specs.Left.{going, put_all}
 use Rattle.bk_mean.specs.Running.{Held, stored, Moved, Ended, top, Advanced, none, on, back, TakesWords}
-use Rattle.bk_func.specs.Records.{SigRecord}
-use Rattle.bk_func.specs.Words.{numbers_at}
+use Rattle.bk_func.specs.Words.{words_at}
 use Rattle.bk_mean.specs.Seen.{word_in}
 use Rattle.bk_mean.specs.declared.words.Words.{Words}
 use Rattle.std.proofs.Math.Seq.{get_or-append_seam}
@@ -87,19 +86,19 @@ set_last : (cs : List Activation) (c d : Activation) (n : ℕ) → n ≡ length 
 set_last [] c d n e = ap (λ k. set (c ∷ []) k d) e
 set_last (x ∷ cs) c d n e = ap (λ k. set (x ∷ (cs ++ c ∷ [])) k d) e ∙ ap (λ xs. x ∷ xs) (set_last cs c d (length cs) refl)
 
-pub took : (t : Target) (g : SigRecord) (a b : Held) (call : Activation) (w : Words) (m : ℕ) → m ≡ length a.calls → b.window ≡ a.window → b.numbers ≡ a.numbers → b.hand ≡ numbers_at t g.args (word_in call.words.out) 0 →
-    call ≡ get_or a.calls (m - 1) call → b.calls ≡ set a.calls (m - 1) (record call { words = record { out = w; back = call.words.back } }) → ((k : ℕ) → word_in w k ≡ 0) → TakesWords t g a b
-took t g a b call w m at_m win num hand own calls zero = record {
+pub took : (count : ℕ) (a b : Held) (call : Activation) (w : Words) (m : ℕ) → m ≡ length a.calls → b.window ≡ a.window → b.numbers ≡ a.numbers → b.hand ≡ a.hand ++ words_at (word_in call.words.out) (length a.hand) (count - length a.hand) →
+    call ≡ get_or a.calls (m - 1) call → b.calls ≡ set a.calls (m - 1) (record call { words = record { out = w; back = call.words.back; regs = call.words.regs } }) → ((k : ℕ) → word_in w k ≡ 0) → TakesWords count a b
+took count a b call w m at_m win num hand own calls zero = record {
   window = win;
   numbers = num;
-  hand = λ cs c e. hand ∙ ap (λ (z : Activation). numbers_at t g.args (word_in z.words.out) 0) (its cs c e);
+  hand = λ cs c e. hand ∙ ap (λ (z : Activation). a.hand ++ words_at (word_in z.words.out) (length a.hand) (count - length a.hand)) (its cs c e);
   calls = λ cs c e. (
     w,
     zero,
-    calls ∙ ap (λ k. set a.calls (k - 1) (record call { words = record { out = w; back = call.words.back } })) at_m
-        ∙ ap (λ (xs : List Activation). set xs (length xs - 1) (record call { words = record { out = w; back = call.words.back } })) e
-        ∙ set_last cs c (record call { words = record { out = w; back = call.words.back } }) (length (cs ++ c ∷ []) - 1) (let l = length-append cs (c ∷ []) in omega (arith, l))
-        ∙ ap (λ (z : Activation). cs ++ (record z { words = record { out = w; back = z.words.back } }) ∷ []) (its cs c e),
+    calls ∙ ap (λ k. set a.calls (k - 1) (record call { words = record { out = w; back = call.words.back; regs = call.words.regs } })) at_m
+        ∙ ap (λ (xs : List Activation). set xs (length xs - 1) (record call { words = record { out = w; back = call.words.back; regs = call.words.regs } })) e
+        ∙ set_last cs c (record call { words = record { out = w; back = call.words.back; regs = call.words.regs } }) (length (cs ++ c ∷ []) - 1) (let l = length-append cs (c ∷ []) in omega (arith, l))
+        ∙ ap (λ (z : Activation). cs ++ (record z { words = record { out = w; back = z.words.back; regs = z.words.regs } }) ∷ []) (its cs c e),
   );
 }
   where

@@ -21,7 +21,7 @@ use Rattle.bk_func.specs.Form.Text.{HasValue}
 use Rattle.bk_func.specs.Form.States.{IsState, NamesAt}
 use Rattle.bk_func.specs.Form.Signatures.{Setting}
 use Rattle.bk_func.specs.Form.Shapes.{HasTypes, Gives, GivesByType, GivesWord, IsData, FitsBits}
-use Rattle.bk_mean.proofs.Roles.{loads, checks, only_mem, info_at}
+use Rattle.bk_mean.proofs.Roles.{loads, checks, only_mem, info_at, result_families, calls_result}
 
 -- what an effect tells of the op
 abbrev Acts : Family → Ty → ℕ → ℕ → Type 0
@@ -43,8 +43,10 @@ acts op.Move ty a b e = inr (inr refl)
 acts op.PanicBounds ty a b e = inr (inr refl)
 acts op.StaticLECall ty a b e = inl refl
 acts op.Call ty a b e = inr (inr refl)
+acts op.CallRegs ty a b e = inr (inr refl)
 acts op.OutWord ty a b e = inr (inr refl)
 acts op.RetWord ty a b e = inr (inr refl)
+acts op.RetRegs ty a b e = inr (inr refl)
 acts op.Trap ty a b e = inr (inr refl)
 acts op.SelectN ty a b e = inr (inl (refl, go (is_mem ty) refl e))
   where
@@ -93,8 +95,10 @@ of_memory op.Move ty a b e = inl refl
 of_memory op.PanicBounds ty a b e = inl refl
 of_memory op.StaticLECall ty a b e = inl refl
 of_memory op.Call ty a b e = inl refl
+of_memory op.CallRegs ty a b e = inl refl
 of_memory op.OutWord ty a b e = inl refl
 of_memory op.RetWord ty a b e = inl refl
+of_memory op.RetRegs ty a b e = inl refl
 of_memory op.Trap ty a b e = inl refl
 of_memory op.Load ty a b e = inr (inl refl)
 of_memory op.NilCheck ty a b e = inr (inr (inl refl))
@@ -158,13 +162,15 @@ check_no_memory s f v t e m = go (checks v.op.family e)
     go (inr (inl o)) = nothing_or_word s v.ty m (result_at s f v (op.Arm arm.Nil) t o)
     go (inr (inr o)) = nothing_or_word s v.ty m (result_at s f v (op.Rv rv.Nil) t o)
 
-by_res_word : (s : Setting) (f : FuncRecord) (v : ValueRecord) → v.op.family ≡ op.ResWord → GivesWord s f v v.op.family → IsData s v.ty
+by_res_word : (s : Setting) (f : FuncRecord) (v : ValueRecord) → (v.op.family ≡ op.ResWord) ⊎ (v.op.family ≡ op.ResReg) → GivesWord s f v v.op.family → IsData s v.ty
 unfolding GivesWord
-by_res_word s f v e h = (let P : Family → Type 0 = λ o. GivesWord s f v o in subst P e h).0
+by_res_word s f v (inl e) h = (let P : Family → Type 0 = λ o. GivesWord s f v o in subst P e h).0
+by_res_word s f v (inr e) h = (let P : Family → Type 0 = λ o. GivesWord s f v o in subst P e h).0
 
-res_word_no_memory : (s : Setting) (f : FuncRecord) (v : ValueRecord) → HasTypes s f v → v.op.family ≡ op.ResWord → ¬ (v.ty ≡ Mem)
+res_word_no_memory : (s : Setting) (f : FuncRecord) (v : ValueRecord) → HasTypes s f v → (v.op.family ≡ op.ResWord) ⊎ (v.op.family ≡ op.ResReg) → ¬ (v.ty ≡ Mem)
 unfolding row entry
-res_word_no_memory s f v t o m = no_data s v.ty m (by_res_word s f v o (result_at s f v op.ResWord t o))
+res_word_no_memory s f v t (inl o) m = no_data s v.ty m (by_res_word s f v (inl o) (result_at s f v op.ResWord t o))
+res_word_no_memory s f v t (inr o) m = no_data s v.ty m (by_res_word s f v (inr o) (result_at s f v op.ResReg t o))
 
 other_call : (o : Family) (v : ValueRecord) → v.op.family ≡ o → (v.op.family ≡ op.StaticLECall) ⊎ (v.ty ≡ Mem) → ¬ (o ≡ op.StaticLECall) → v.ty ≡ Mem
 other_call o v e (inl c) n = absurd (n (sym e ∙ c))
@@ -174,11 +180,13 @@ other_call o v e (inr m) n = m
 pub named_effect : (s : Setting) (f : FuncRecord) (b : BlockRecord) (v : ValueRecord) → HasTypes s f v → IsState f b v → (k n : ℕ) → NamesAt v k → slice_get v.args k ≡ Some n → ¬ (v.op.family ≡ op.InitMem) →
     has_effect v ≡ true
 named_effect s f b v t i k n (inl c) g z = absurd (i.1 c.0.0)
-named_effect s f b v t i k n (inr (inl c)) g z =
-    let m = other_call op.SelectN v c.0 i.3 (λ e. cc) in
-    rw (c.0, m) refl
-named_effect s f b v t i k n (inr (inr (inl c))) g z = absurd (res_word_no_memory s f v t c.0 (other_call op.ResWord v c.0 i.3 (λ e. cc)))
-named_effect s f b v t i k n (inr (inr (inr c))) g z =
+named_effect s f b v t i k n (inr (inl c)) g z = go (result_families v (calls_result v.op.family c.0))
+  where
+    go : (v.op.family ≡ op.SelectN) ⊎ (v.op.family ≡ op.ResWord) ⊎ (v.op.family ≡ op.ResReg) → has_effect v ≡ true
+    go (inl o) = let m = other_call op.SelectN v o i.3 (λ e. cc) in rw (o, m) refl
+    go (inr (inl o)) = absurd (res_word_no_memory s f v t (inl o) (other_call op.ResWord v o i.3 (λ e. cc)))
+    go (inr (inr o)) = absurd (res_word_no_memory s f v t (inr o) (other_call op.ResReg v o i.3 (λ e. cc)))
+named_effect s f b v t i k n (inr (inr c)) g z =
     go (of_memory v.op.family v.ty v.op.a v.op.b (sym (ap (λ (x : OpInfo). x.memory) (info_at v.op v.op.family t.op refl)) ∙ c.0))
   where
     is_called : (is_some (effect_of v.op.family v.ty) ≡ true) ⊎ (v.ty ≡ Mem) → (v.ty ≡ Mem → ⊥) → has_effect v ≡ true

@@ -1,10 +1,10 @@
 -- How a block is left: by an edge, by a call, or with results.
-use Rattle.std.specs.Prelude.{◌≡◌, ℕ, ◌+◌, ◌%◌, ◌==◌, Bool, true, false, if◌then◌else◌, List, [], ◌∷◌, ◌++◌, length, map, take, drop, slice_get, slice_index, slice_set, Option, Some, None}
+use Rattle.std.specs.Prelude.{◌≡◌, ℕ, ◌+◌, ◌%◌, ◌==◌, Bool, true, false, if◌then◌else◌, ◌-◌, List, [], ◌∷◌, ◌++◌, length, map, take, drop, slice_get, slice_index, slice_set, Option, Some, None}
 use Rattle.bk_ops.specs.declared.types.Target.{Target}
 use Rattle.bk_func.specs.declared.parts.Kind.{Kind}
 use Rattle.bk_func.specs.declared.parts.Kind.TheVariants.{Plain, If, First, Ret, Exit}
 use Rattle.bk_func.specs.Records.{SigRecord, FuncRecord, BlockRecord}
-use Rattle.bk_func.specs.Words.{numbers_at, count_words}
+use Rattle.bk_func.specs.Words.{words_at}
 use Rattle.bk_func.specs.Meaning.{without_memory}
 use Rattle.bk_mean.specs.declared.machine.Activation.{Activation}
 use Rattle.bk_mean.specs.declared.ready.Ready.{Ready}
@@ -16,7 +16,6 @@ use Rattle.bk_mean.specs.declared.step.After.TheVariants as after
 use Rattle.bk_mean.specs.declared.step.CallWords.{CallWords}
 use Rattle.bk_mean.specs.declared.turn.Next.{Next}
 use Rattle.bk_mean.specs.declared.turn.Next.TheVariants as next
-use Rattle.bk_mean.specs.declared.words.Words.{Words}
 use Rattle.bk_mean.specs.Machine.{arg_number}
 use Rattle.bk_mean.specs.Seen.{word_in}
 use Rattle.bk_mean.specs.Turned.{Stage, Turned}
@@ -25,11 +24,15 @@ use Rattle.bk_mean.specs.Turned.{Stage, Turned}
 abbrev pub going : Activation → ℕ → ℕ → CallWords → Activation
 going a n by words = record a { next = n; called_by = by; words = words }
 
--- the results of a function: the numbers at the places of its control's arguments, or what the words given back spell
-abbrev pub results_of : Option ReadyValue → List ℕ → Target → SigRecord → Words → List ℕ
-results_of None numbers t g back = numbers_at t g.results (word_in back) (count_words t g.args)
-results_of (Some r) numbers t g back =
-    if r.gives_results then map (slice_index numbers) (without_memory r.args.items) else numbers_at t g.results (word_in back) (count_words t g.args)
+-- the words that a call gives back: those in registers, then those that were written
+abbrev pub given_words : SigRecord → CallWords → List ℕ
+given_words g ws =
+    ws.regs.items ++ words_at (word_in ws.back) (length g.args + length ws.regs.items) (length g.results - length ws.regs.items)
+
+-- the results of a function: the numbers at the places of its control's arguments, or the words given back
+abbrev pub results_of : Option ReadyValue → List ℕ → SigRecord → CallWords → List ℕ
+results_of None numbers g ws = given_words g ws
+results_of (Some r) numbers g ws = if r.gives_results then map (slice_index numbers) (without_memory r.args.items) else given_words g ws
 
 -- the number that a phi takes by an edge
 abbrev pub phi_number : Option ReadyValue → List ℕ → ℕ → ℕ
@@ -69,15 +72,15 @@ chosen true c = c.other
 chosen false c = c.edge
 
 -- the way out of a block by its kind
-abbrev pub Leaves : Kind → Target → SigRecord → Ready → ReadyBlock → Desk → Desk → Next → Type 0
-Leaves Plain t g r c a b x = Crosses r c.edge.block c.edge.place a b x
-Leaves First t g r c a b x = Crosses r c.edge.block c.edge.place a b x
-Leaves If t g r c a b x =
+abbrev pub Leaves : Kind → SigRecord → Ready → ReadyBlock → Desk → Desk → Next → Type 0
+Leaves Plain g r c a b x = Crosses r c.edge.block c.edge.place a b x
+Leaves First g r c a b x = Crosses r c.edge.block c.edge.place a b x
+Leaves If g r c a b x =
     Crosses r (chosen (slice_index a.numbers c.control % 2 == 0) c).block (chosen (slice_index a.numbers c.control % 2 == 0) c).place a b x
-Leaves Ret t g r c a b x =
+Leaves Ret g r c a b x =
     (x ≡ next.Return) × (b.call ≡ a.call) × (b.numbers ≡ a.numbers)
-    × (b.hand ≡ results_of (slice_get r.values.items c.control) a.numbers t g a.call.words.back)
-Leaves Exit t g r c a b x = x ≡ next.Trap 6
+    × (b.hand ≡ results_of (slice_get r.values.items c.control) a.numbers g a.call.words)
+Leaves Exit g r c a b x = x ≡ next.Trap 6
 
 -- the numbers of a call's arguments are at hand
 abbrev pub Begins : Option ReadyValue → Desk → Desk → Next → Type 0
@@ -86,11 +89,11 @@ Begins (Some r) a b x =
     (x ≡ next.Call r.callee r.on_words) × (b.call ≡ a.call) × (b.numbers ≡ a.numbers) × (b.hand ≡ map (slice_index a.numbers) (without_memory r.args.items))
 
 -- what comes after the turns of a block's values
-abbrev pub Goes : After → Kind → Target → SigRecord → Ready → ReadyBlock → Desk → Desk → Next → Type 0
-Goes after.On k t g r c a b x = Leaves k t g r c a b x
-Goes (after.Trap n) k t g r c a b x = x ≡ next.Trap n
-Goes (after.Wild n) k t g r c a b x = x ≡ next.Wild n
-Goes after.Call k t g r c a b x = Begins (slice_get r.values.items a.call.called_by) a b x
+abbrev pub Goes : After → Kind → SigRecord → Ready → ReadyBlock → Desk → Desk → Next → Type 0
+Goes after.On k g r c a b x = Leaves k g r c a b x
+Goes (after.Trap n) k g r c a b x = x ≡ next.Trap n
+Goes (after.Wild n) k g r c a b x = x ≡ next.Wild n
+Goes after.Call k g r c a b x = Begins (slice_get r.values.items a.call.called_by) a b x
 
 -- the rest of a block, in a call on these arguments
 pub record Ran (t : Target) (f : FuncRecord) (r : Ready) (k : BlockRecord) (c : ReadyBlock) (args : List ℕ) (a b : Desk) (old new : List ℕ) (x : Next) : Type 0 where
@@ -98,10 +101,10 @@ pub record Ran (t : Target) (f : FuncRecord) (r : Ready) (k : BlockRecord) (c : 
   pub at : ℕ
   pub by : ℕ
   pub after : After
-  pub turned : Turned (record { target = t; types = f.sig.args; args = args }) k c.first r.values.items (drop a.call.next c.order.items)
+  pub turned : Turned (record { target = t; args = args }) k c.first r.values.items (drop a.call.next c.order.items)
       (record { numbers = a.numbers; window = old; words = a.call.words }) stage (drop at c.order.items) by after
   pub window : new ≡ stage.window
-  pub went : Goes after k.kind t f.sig r c (record { call = going a.call at by stage.words; numbers = stage.numbers; hand = a.hand }) b x
+  pub went : Goes after k.kind f.sig r c (record { call = going a.call at by stage.words; numbers = stage.numbers; hand = a.hand }) b x
 
 -- the same where the numbers of a call are those of its values, one more, and its arguments
 pub record GoesOn (t : Target) (f : FuncRecord) (r : Ready) (k : BlockRecord) (c : ReadyBlock) (a b : Desk) (old new : List ℕ) (x : Next) : Type 0 where

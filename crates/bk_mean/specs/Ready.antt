@@ -1,30 +1,27 @@
 -- What is known of a function before a run.
 use Rattle.std.specs.Prelude.{◌≡◌, ℕ, ◌+◌, ◌<◌, ◌==◌, Bool, true, false, if◌then◌else◌, List, [], ◌∷◌, length, map, flat_map, filter, take, position, slice_index, slice_get, get_or, Option, Some, None, option_and_then}
 use Rattle.std.specs.List.{AllZip}
-use Rattle.bk_ops.specs.declared.family.Family.{Family}
-use Rattle.bk_ops.specs.declared.family.Family.TheVariants as op
+use Rattle.bk_ops.specs.Families.{is_word_call}
 use Rattle.bk_func.specs.Records.{ValueRecord, BlockRecord, FuncRecord, PackageRecord}
 use Rattle.bk_func.specs.Edits.{block_of, nth_place}
 use Rattle.bk_func.specs.Numbers.{Origin, result, origin_of, values_of, room, natural, address_of}
 use Rattle.bk_func.specs.Effects.{is_phi, is_at}
-use Rattle.bk_func.specs.Meaning.{symbol_of, is_make_result, edge_place}
+use Rattle.bk_func.specs.Symbols.{symbol_of}
+use Rattle.bk_func.specs.Meaning.{is_make_result, edge_place}
 use Rattle.bk_mean.specs.declared.ready.Ready.{Ready}
 use Rattle.bk_mean.specs.declared.ready.ReadyValue.{ReadyValue}
 use Rattle.bk_mean.specs.declared.ready.ReadyBlock.{ReadyBlock}
 use Rattle.bk_mean.specs.declared.ready.Edge.{Edge}
+use Rattle.bk_mean.specs.declared.ready.Kept.{Kept}
 use Rattle.bk_mean.specs.Arranged.{IsOrdered}
 use Rattle.bk_mean.specs.Numbering.{found_in, place_in}
 use Rattle.bk_mean.specs.Symbols.{callee_of}
-
-abbrev pub is_on_words : Family → Bool
-is_on_words op.Call = true
-is_on_words _ = false
 
 pub record IsReadyValue (p : PackageRecord) (f : FuncRecord) (v : ValueRecord) (r : ReadyValue) : Type 0 where
   pub args : r.args.items ≡ map (place_in f) v.args
   pub address : r.address ≡ address_of p v.aux
   pub callee : r.callee ≡ callee_of p (symbol_of v.aux)
-  pub on_words : r.on_words ≡ is_on_words v.op.family
+  pub on_words : r.on_words ≡ is_word_call v.op.family
   pub gives_results : r.gives_results ≡ is_make_result v.op.family
 
 abbrev pub AreReadyValues : PackageRecord → FuncRecord → List ValueRecord → List ReadyValue → Type 0
@@ -38,12 +35,16 @@ is_result _ = false
 abbrev pub call_place : FuncRecord → ValueRecord → Option ℕ
 call_place f v = if is_result (origin_of v.op.family) then option_and_then (found_in f) (slice_get v.args 0) else None
 
--- the results of the call at a place: which result or word each is, and the place of its number
-abbrev pub results_at : FuncRecord → ℕ → List ValueRecord → List (ℕ × ℕ)
-results_at f k vs = map (λ v. (natural v.int, place_in f v.id)) (filter (λ v. is_at (call_place f v) k) vs)
+-- what a value keeps of the results of its call
+abbrev pub kept_by : FuncRecord → ValueRecord → Kept
+kept_by f v = record { index = natural v.int; place = place_in f v.id; family = v.op.family; ty = v.ty }
+
+-- what is kept of the results of the call at a place
+abbrev pub results_at : FuncRecord → ℕ → List ValueRecord → List Kept
+results_at f k vs = map (kept_by f) (filter (λ v. is_at (call_place f v) k) vs)
 
 -- for each value, by places, what is kept of its results
-pub record KeepsResults (f : FuncRecord) (vs : List ValueRecord) (kept : List (List (ℕ × ℕ))) : Type 0 where
+pub record KeepsResults (f : FuncRecord) (vs : List ValueRecord) (kept : List (List Kept)) : Type 0 where
   pub each : (k : ℕ) → k < room f → get_or kept k [] ≡ results_at f k vs
 
 -- the phis among values, by their places, where the first has the place n

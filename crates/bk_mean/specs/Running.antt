@@ -4,11 +4,14 @@ use Rattle.std.specs.declared.alloc.Global.{Global}
 use Rattle.bk_ops.specs.declared.types.Target.{Target}
 use Rattle.bk_func.specs.Records.{SigRecord, BlockRecord, FuncRecord, PackageRecord}
 use Rattle.bk_func.specs.Meaning.{Outcome, returned, trapped, wild, going}
-use Rattle.bk_func.specs.Words.{all_words, numbers_at, fitted}
+use Rattle.bk_ops.specs.declared.family.Family.{Family}
+use Rattle.bk_ops.specs.declared.family.Family.TheVariants as op
+use Rattle.bk_func.specs.Words.{words_at}
+use Rattle.bk_func.specs.Numbers.{cut_result}
 use Rattle.bk_mean.specs.declared.machine.Activation.{Activation}
 use Rattle.bk_mean.specs.declared.machine.Machine.{Machine}
 use Rattle.bk_mean.specs.declared.ready.Ready.{Ready}
-use Rattle.bk_mean.specs.declared.ready.ReadyValue.{ReadyValue}
+use Rattle.bk_mean.specs.declared.ready.Kept.{Kept}
 use Rattle.bk_mean.specs.declared.ready.ReadyBlock.{ReadyBlock}
 use Rattle.bk_mean.specs.declared.turn.Next.{Next}
 use Rattle.bk_mean.specs.declared.turn.Next.TheVariants as next
@@ -38,14 +41,19 @@ pub record Held : Type 0 where
 abbrev pub stored : Held → Store
 stored h = record { window = h.window; hand = h.hand; numbers = h.numbers }
 
--- what is kept of the numbers that a call gave, put in its places from the first on
-abbrev pub keep_all : ℕ → List (ℕ × ℕ) → List ℕ → List ℕ → List ℕ
-keep_all first [] given numbers = numbers
-keep_all first (k ∷ ks) given numbers = keep_all first ks given (slice_set numbers (first + k.1) (slice_index given k.0))
+-- which result a number beside an op says, of a function that takes so many arguments
+abbrev pub index_of : Family → ℕ → ℕ → ℕ
+index_of op.ResWord n count = n - count
+index_of _ n count = n
 
--- the results of a call, or the words of its arguments and results
-abbrev pub given_back : Bool → Target → SigRecord → List ℕ → List ℕ → List ℕ
-given_back on_words t g args results = if on_words then all_words t g.args args ++ all_words t g.results results else results
+-- the number of a value that keeps a result
+abbrev pub kept_number : Target → ℕ → Kept → List ℕ → ℕ
+kept_number t count k given = cut_result k.family t k.ty (slice_index given (index_of k.family k.index count))
+
+-- what is kept of the results of a call, put in its places from the first on
+abbrev pub keep_all : Target → ℕ → ℕ → List Kept → List ℕ → List ℕ → List ℕ
+keep_all t count first [] given numbers = numbers
+keep_all t count first (k ∷ ks) given numbers = keep_all t count first ks given (slice_set numbers (first + k.place) (kept_number t count k given))
 
 -- what a run has
 abbrev pub held : Machine → Held
@@ -67,21 +75,12 @@ abbrev pub Moved : Target → PackageRecord → List (Option Ready) → Activati
 Moved t p readies c d a b x =
     (f : FuncRecord) (r : Ready) → slice_get p.funcs c.func ≡ Some f → slice_get readies c.func ≡ Some (Some r) → c.base ≤ length a.numbers → MovesOn t f r c d a b x
 
--- the results of a call go to the values of the caller that keep them
-abbrev pub GivesTo : Target → List (Option Ready) → Activation → SigRecord → ℕ → ℕ → List ℕ → List ℕ → List ℕ → Type 0
-GivesTo t readies c g values base results old new =
-    (r : Ready) (v : ReadyValue) (kept : Vec (ℕ × ℕ) Global) → slice_get readies c.func ≡ Some (Some r) → slice_get r.values.items c.called_by ≡ Some v → slice_get r.kept.items c.called_by ≡ Some kept
-    → new ≡ keep_all c.base kept.items (given_back v.on_words t g (drop (base + values + 1) old) results) (take base old)
-
--- a call ends: the results at hand, fitted, go to the caller, or stay at hand where there is none
-abbrev pub GivesBack : Target → List (Option Ready) → Option Activation → SigRecord → ℕ → ℕ → List ℕ → List ℕ → List ℕ → List ℕ → Type 0
-GivesBack t readies None g values base old hand new given = given ≡ fitted t g.results hand
-GivesBack t readies (Some c) g values base old hand new given = GivesTo t readies c g values base (fitted t g.results hand) old new
-
+-- a call of the function ends: the results stay at hand, and go to the values of the caller that keep them, if there is one
 abbrev pub Ended : Target → PackageRecord → List (Option Ready) → Option Activation → Activation → Held → Held → Type 0
-Ended t p readies caller d a b =
-    (f : FuncRecord) (r : Ready) → slice_get p.funcs d.func ≡ Some f → slice_get readies d.func ≡ Some (Some r)
-    → GivesBack t readies caller f.sig (length r.values.items) d.base a.numbers a.hand b.numbers b.hand
+Ended t p readies None d a b = b.hand ≡ a.hand
+Ended t p readies (Some c) d a b =
+    (f : FuncRecord) (r : Ready) (kept : Vec Kept Global) → slice_get p.funcs d.func ≡ Some f → slice_get readies c.func ≡ Some (Some r) → slice_get r.kept.items c.called_by ≡ Some kept
+    → b.numbers ≡ keep_all t (length f.sig.args) c.base kept.items a.hand (take d.base a.numbers)
 
 -- the run goes on until a block is entered, a function is called or the run ends
 pub data Advanced (t : Target) (p : PackageRecord) (readies : List (Option Ready)) : Held → Held → Next → Type 0 where
@@ -91,22 +90,23 @@ pub data Advanced (t : Target) (p : PackageRecord) (readies : List (Option Ready
   back : (a m b e : Held) (cs : List Activation) (c d : Activation) (x : Next) → a.calls ≡ cs ++ c ∷ [] → b.calls ≡ cs → Moved t p readies c d (stored a) (stored m) next.Return
       → Ended t p readies (top cs) d m b → b.window ≡ m.window → Advanced t p readies b e x → Advanced t p readies a e x
 
--- the words that were written for a call are taken at hand, as the numbers that they spell
-pub record TakesWords (t : Target) (g : SigRecord) (a b : Held) : Type 0 where
+-- the words that were written for a call are taken behind those at hand, so many in all
+pub record TakesWords (count : ℕ) (a b : Held) : Type 0 where
   pub window : b.window ≡ a.window
   pub numbers : b.numbers ≡ a.numbers
-  pub hand : (cs : List Activation) (c : Activation) → a.calls ≡ cs ++ c ∷ [] → b.hand ≡ numbers_at t g.args (word_in c.words.out) 0
+  pub hand : (cs : List Activation) (c : Activation) → a.calls ≡ cs ++ c ∷ [] → b.hand ≡ a.hand ++ words_at (word_in c.words.out) (length a.hand) (count - length a.hand)
   pub calls : (cs : List Activation) (c : Activation) → a.calls ≡ cs ++ c ∷ []
-      → (w : Words) × ((k : ℕ) → word_in w k ≡ 0) × (b.calls ≡ cs ++ (record c { words = record { out = w; back = c.words.back } }) ∷ [])
+      → (w : Words) × ((k : ℕ) → word_in w k ≡ 0) × (b.calls ≡ cs ++ (record c { words = record { out = w; back = c.words.back; regs = c.words.regs } }) ∷ [])
 
 -- a call of a function begins on the numbers at hand
-pub record Begun (t : Target) (func : ℕ) (g : SigRecord) (values stack : ℕ) (a b : Held) : Type 0 where
+pub record Begun (func : ℕ) (values stack : ℕ) (a b : Held) : Type 0 where
   pub window : b.window ≡ a.window
-  pub numbers : b.numbers ≡ a.numbers ++ (replicate (values + 1) 0 ++ fitted t g.args a.hand)
+  pub numbers : b.numbers ≡ a.numbers ++ (replicate (values + 1) 0 ++ a.hand)
   pub words : CallWords
   pub calls : b.calls ≡ a.calls ++ (record { func = func; base = length a.numbers; block = 0; next = 0; called_by = 0; stack = stack; words = words }) ∷ []
   pub out : (k : ℕ) → word_in words.out k ≡ 0
   pub back : (k : ℕ) → word_in words.back k ≡ 0
+  pub regs : words.regs.items ≡ []
 
 -- the stack that is left to a call
 abbrev pub stack_left : Option Activation → ℕ → ℕ
@@ -124,23 +124,23 @@ pub record MakesReady (s : Symbols) (f : FuncRecord) (place : ℕ) (old new : Li
   pub there : place < length old → (r : Ready) × (slice_get new place ≡ Some (Some r))
   pub ready : (p : PackageRecord) → IsNaming p s → slice_get p.funcs place ≡ Some f → AreReady p old → AreReady p new
 
--- a call takes the numbers at hand, or those that the words written for it spell
-abbrev pub Takes : Bool → Target → SigRecord → Held → Held → Type 0
-Takes true t g a b = TakesWords t g a b
-Takes false t g a b = b ≡ a
+-- a call takes the numbers at hand, on words also those that were written for it, so many in all
+abbrev pub Takes : Bool → ℕ → Held → Held → Type 0
+Takes true count a b = TakesWords count a b
+Takes false count a b = b ≡ a
 
 -- a call of a function that is ready begins with so many bytes of stack left to it
-pub record Opens (t : Target) (place : ℕ) (g : SigRecord) (r : Ready) (stack : ℕ) (on_words : Bool) (a b : Held) : Type 0 where
+pub record Opens (place : ℕ) (g : SigRecord) (r : Ready) (stack : ℕ) (on_words : Bool) (a b : Held) : Type 0 where
   pub taken : Held
-  pub takes : Takes on_words t g a taken
-  pub begun : Begun t place g (length r.values.items) stack taken b
+  pub takes : Takes on_words (length g.args) a taken
+  pub begun : Begun place (length r.values.items) stack taken b
 
 -- a call of the function at a place begins, or traps where its frame exceeds the stack
 pub record Starts (t : Target) (p : PackageRecord) (frames : List ℕ) (place start : ℕ) (on_words : Bool) (old new : List (Option Ready)) (a b : Held) (trap : Option ℕ) : Type 0 where
   pub full : nat_lt (stack_left (top a.calls) start) (slice_index frames place) ≡ true → (trap ≡ Some 5) × (b.window ≡ a.window)
   pub room : nat_lt (stack_left (top a.calls) start) (slice_index frames place) ≡ false → trap ≡ None
   pub opens : (f : FuncRecord) (r : Ready) → nat_lt (stack_left (top a.calls) start) (slice_index frames place) ≡ false → slice_get p.funcs place ≡ Some f → slice_get new place ≡ Some (Some r)
-      → Opens t place f.sig r (stack_left (top a.calls) start - slice_index frames place) on_words a b
+      → Opens place f.sig r (stack_left (top a.calls) start - slice_index frames place) on_words a b
   pub there : nat_lt (stack_left (top a.calls) start) (slice_index frames place) ≡ false → place < length old → (r : Ready) × (slice_get new place ≡ Some (Some r))
   pub grows : (i : ℕ) (r : Ready) → slice_get old i ≡ Some (Some r) → slice_get new i ≡ Some (Some r)
   pub ready : AreReady p old → AreReady p new

@@ -33,6 +33,7 @@ seen_effect does.Call = fx.call
 seen_effect does.CallWords = fx.call_words
 seen_effect does.OutWord = fx.out_word
 seen_effect does.RetWord = fx.ret_word
+seen_effect does.RetWords = fx.ret_words
 seen_effect does.Trap = fx.trap
 seen_effect does.Pass = fx.pass
 

@@ -7,7 +7,6 @@ use Rattle.bk_ops.specs.declared.family.Family.TheVariants as op
 use Rattle.bk_ops.specs.declared.family.ArmOp.TheVariants as arm
 use Rattle.bk_ops.specs.declared.family.RvOp.TheVariants as rv
 use Rattle.bk_ops.specs.declared.types.Target.{Target}
-use Rattle.bk_ops.specs.declared.types.Ty.{Ty}
 use Rattle.bk_func.specs.declared.parts.Aux.{Aux}
 use Rattle.bk_func.specs.declared.parts.Aux.TheVariants as beside
 use Rattle.bk_func.specs.Records.{ValueRecord, FuncRecord}
@@ -24,9 +23,8 @@ pub record Reads (numbers places : List ℕ) (m : ℕ → ℕ) (args : List ℕ)
   pub same : map (slice_index numbers) places ≡ map m args
 
 -- what a call is on
-pub record Stands (p : Program) (f : FuncRecord) (e : Env) (t : Target) (tys : List Ty) (ns : List ℕ) : Type 0 where
+pub record Stands (p : Program) (e : Env) (t : Target) (ns : List ℕ) : Type 0 where
   pub target : p.target ≡ t
-  pub types : f.sig.args ≡ tys
   pub args : e.args ≡ ns
 
 -- the value has the arguments that its number follows from; checks and loads have their own turn, and numbers of edges and
@@ -80,7 +78,7 @@ IsActed _ t v = Unit {0}
 
 -- a call with these words, and the world with this window
 abbrev pub with_words : Activation → CallWords → Activation
-with_words a ws = record a { out = word_in ws.out; back = word_in ws.back }
+with_words a ws = record a { out = word_in ws.out; back = word_in ws.back; regs = ws.regs.items }
 
 abbrev pub seeing : World → List ℕ → World
 seeing w window = record w { window = window }

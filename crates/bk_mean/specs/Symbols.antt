@@ -5,7 +5,7 @@ use Rattle.std.specs.BTreeMap.{get}
 use Rattle.bk_num.specs.Memory.{data_base}
 use Rattle.bk_func.specs.Records.{VarRecord, PackageRecord}
 use Rattle.bk_func.specs.Numbers.{rounded}
-use Rattle.bk_func.specs.Meaning.{panic_divide, panic_shift}
+use Rattle.bk_func.specs.Symbols.{panic_divide, panic_shift}
 use Rattle.bk_mean.specs.declared.symbols.Callee.{Callee}
 use Rattle.bk_mean.specs.declared.symbols.Callee.TheVariants.{Func, PanicDivide, PanicShift, Missing}
 use Rattle.bk_mean.specs.declared.symbols.Symbols.{Symbols}

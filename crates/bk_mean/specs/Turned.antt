@@ -1,7 +1,6 @@
 -- The turns of a block's values, one after the other.
 use Rattle.std.specs.Prelude.{◌≡◌, ℕ, ◌+◌, List, [], ◌∷◌, slice_get, Option, Some, None, ◌⊎◌}
 use Rattle.bk_ops.specs.declared.types.Target.{Target}
-use Rattle.bk_ops.specs.declared.types.Ty.{Ty}
 use Rattle.bk_func.specs.Records.{ValueRecord, BlockRecord, FuncRecord}
 use Rattle.bk_func.specs.Numbers.{Program, Env, origin_of, number_by, address_of}
 use Rattle.bk_func.specs.Effects.{Effect, effect_of}
@@ -21,15 +20,14 @@ pub record Stage : Type 0 where
 -- what a call is on
 pub record Ground : Type 0 where
   pub target : Target
-  pub types : List Ty
   pub args : List ℕ
 
 -- the turn of a value at a place, from one stage to the next
 pub record IsTurn (g : Ground) (v : ValueRecord) (r : ReadyValue) (place : ℕ) (a b : Stage) (x : After) : Type 0 where
   pub quiet : effect_of v.op.family v.ty ≡ None → (b.window ≡ a.window) × (b.words ≡ a.words)
-  pub fault : effect_of v.op.family v.ty ≡ None → (p : Program) (f : FuncRecord) (e : Env) (m : ℕ → ℕ) → Stands p f e g.target g.types g.args → Reads a.numbers r.args.items m v.args
+  pub fault : effect_of v.op.family v.ty ≡ None → (p : Program) (f : FuncRecord) (e : Env) (m : ℕ → ℕ) → Stands p e g.target g.args → Reads a.numbers r.args.items m v.args
       → IsSettled (origin_of v.op.family) g.target v → fault_of x ≡ fault_by (origin_of v.op.family) g.target m a.window v
-  pub number : effect_of v.op.family v.ty ≡ None → (p : Program) (f : FuncRecord) (e : Env) (m : ℕ → ℕ) → Stands p f e g.target g.types g.args → r.address ≡ address_of p.pkg v.aux
+  pub number : effect_of v.op.family v.ty ≡ None → (p : Program) (f : FuncRecord) (e : Env) (m : ℕ → ℕ) → Stands p e g.target g.args → r.address ≡ address_of p.pkg v.aux
       → Reads a.numbers r.args.items m v.args → IsSettled (origin_of v.op.family) g.target v → Sees f e a.window (origin_of v.op.family) v → fault_of x ≡ None
       → b.numbers ≡ settled (origin_of v.op.family) a.numbers place (number_by (origin_of v.op.family) p f e m v)
   pub acted : (y : Effect) → effect_of v.op.family v.ty ≡ Some y → b.numbers ≡ a.numbers

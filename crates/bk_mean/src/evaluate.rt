@@ -1,19 +1,21 @@
 // The evaluation of one function of a package.
 ghost use Rattle.std.specs.Prelude.{◌≡◌, ℕ, ◌<◌, ◌↔◌, false, [], length, None, Some, IfOk, OnOk, IsErrOf, slice_get, slice_index};
+ghost use Rattle.bk_func.specs.Words.{fitted as meant_fitted};
 ghost use Rattle.bk_func.specs.Meaning.{meaning};
-ghost use Rattle.bk_mean.specs.Eval.{function_named, is_name, fit_at, program, EntersNone, AreFormed};
+ghost use Rattle.bk_mean.specs.Eval.{function_named, is_name, fit_at, program, fitted_outcome, EntersNone, AreFormed};
 ghost use Rattle.bk_mean.specs.Seen.{seen_outcome};
 ghost use Rattle.bk_mean.specs.declared.ready.Ready.{Ready as ReadyFunc};
 ghost use Rattle.bk_mean.specs.Running.{NoneReady, held, Calls, MakesReady, Opens, RunsAll, RunsTo, Starts, Takes};
 ghost use Rattle.bk_mean.specs.Symbols.{IsNaming};
 
+use crate::fit::push_fitted;
 use crate::machine::Machine;
 use crate::prepare::prepare;
 use crate::ready::Ready;
 use crate::symbols::{Callee, Symbols};
 use crate::turn::Next;
 use crate::{EvalError, Outcome};
-use bk_func::{Func, Package, Sig, fit};
+use bk_func::{Func, Package, Sig, TRAP_DIVIDE, TRAP_EXIT, TRAP_SHIFT, TRAP_STACK, fit};
 use bk_ops::Target;
 use std::alloc::{AllocError, Global};
 
@@ -87,13 +89,15 @@ fn run(
     ensures meant { IfOk result (λ r. AreFormed pkg.now → (seen_outcome r.0, r.1.items) ≡ meaning (program pkg.now target frames.now) place args.now window.now stack bound) }
     ensures none_entered { IfOk result (λ r. EntersNone bound stack (slice_index frames.now place) → (seen_outcome r.0, r.1.items) ≡ meaning (program pkg.now target frames.now) place args.now window.now stack bound) }
 {
+    let func = &pkg.funcs[place];
     let symbols = Symbols::new(alloc, pkg)?;
     let mut readies = none_ready(alloc, pkg.funcs.len())?;
+    let hand = fit_args(alloc, target, &func.sig, args)?;
     let mut machine = Machine {
         alloc,
         target,
         window: window.to_vec(alloc)?,
-        hand: args.to_vec(alloc)?,
+        hand,
         numbers: Vec::new(alloc),
         calls: Vec::new(alloc),
     };
@@ -108,8 +112,37 @@ fn run(
         &mut readies,
         &mut machine,
     )?;
+    let told = fit_outcome(alloc, target, &func.sig, outcome)?;
     let Machine { window, .. } = machine;
-    Ok((outcome, window))
+    Ok((told, window))
+}
+
+/// The arguments, each modulo 2 to the width of its type.
+fn fit_args(alloc: Global, target: Target, sig: &Sig, args: &[u64]) -> Result<Vec<u64>, AllocError>
+    ensures { IfOk result (λ fitted. fitted.items ≡ meant_fitted target sig.now.args args.now) }
+{
+    let mut fitted = Vec::with_capacity(alloc, args.len())?;
+    push_fitted(&mut fitted, target, &sig.args, args)?;
+    Ok(fitted)
+}
+
+/// The same with each result modulo 2 to the width of its type.
+fn fit_outcome(
+    alloc: Global,
+    target: Target,
+    sig: &Sig,
+    outcome: Outcome,
+) -> Result<Outcome, AllocError>
+    ensures { IfOk result (λ o. seen_outcome o ≡ fitted_outcome target sig.now.results (seen_outcome outcome)) }
+{
+    match outcome {
+        Outcome::Returned(numbers) => {
+            let mut results = Vec::with_capacity(alloc, numbers.len())?;
+            push_fitted(&mut results, target, &sig.results, &numbers)?;
+            Ok(Outcome::Returned(results))
+        }
+        outcome => Ok(outcome),
+    }
 }
 
 /// A list of so many functions, none of which is ready.
@@ -201,9 +234,9 @@ fn begin_named(
     ensures calls { IfOk result (λ trap. Calls machine.old.target pkg.now frames.now stack callee on_words readies.old.items readies.new.items (held machine.old) (held machine.new) trap) }
 {
     match callee {
-        Callee::PanicDivide => Ok(Some(3)),
-        Callee::PanicShift => Ok(Some(4)),
-        Callee::Missing => Ok(Some(6)),
+        Callee::PanicDivide => Ok(Some(TRAP_DIVIDE)),
+        Callee::PanicShift => Ok(Some(TRAP_SHIFT)),
+        Callee::Missing => Ok(Some(TRAP_EXIT)),
         Callee::Func(place) => begin(
             alloc, pkg, frames, place, stack, symbols, readies, machine, on_words,
         ),
@@ -228,12 +261,12 @@ fn begin(
     ensures starts { IfOk result (λ trap. place < length pkg.now.funcs → Starts machine.old.target pkg.now frames.now place stack on_words readies.old.items readies.new.items (held machine.old) (held machine.new) trap) }
 {
     let Some(func) = pkg.funcs.get(place) else {
-        return Ok(Some(6));
+        return Ok(Some(TRAP_EXIT));
     };
     let have = machine.stack(stack);
     let frame = frame_of(frames, place);
     if have < frame {
-        return Ok(Some(5));
+        return Ok(Some(TRAP_STACK));
     }
     make_ready(alloc, symbols, func, readies, place)?;
     open(place, func, readies, have - frame, on_words, machine)?;
@@ -250,7 +283,7 @@ fn open(
     machine: &mut Machine,
 ) -> Result<(), AllocError>
     ensures target { machine.new.target ≡ machine.old.target }
-    ensures opens { OnOk result ((r : ReadyFunc) → slice_get readies.now place ≡ Some (Some r) → Opens machine.old.target place func.now.sig r stack on_words (held machine.old) (held machine.new)) }
+    ensures opens { OnOk result ((r : ReadyFunc) → slice_get readies.now place ≡ Some (Some r) → Opens place func.now.sig r stack on_words (held machine.old) (held machine.new)) }
 {
     let Some(Some(ready)) = readies.get(place) else {
         return Ok(());
@@ -268,22 +301,22 @@ fn open_ready(
     machine: &mut Machine,
 ) -> Result<(), AllocError>
     ensures target { machine.new.target ≡ machine.old.target }
-    ensures opens { OnOk result (Opens machine.old.target place sig.now ready.now stack on_words (held machine.old) (held machine.new)) }
+    ensures opens { OnOk result (Opens place sig.now ready.now stack on_words (held machine.old) (held machine.new)) }
 {
     take(machine, on_words, sig)?;
-    machine.begin(place, sig, ready, stack)?;
+    machine.begin(place, ready, stack)?;
     Ok(())
 }
 
 /// Takes the words that were written for a call at hand, if the call is on words.
 fn take(machine: &mut Machine, on_words: bool, sig: &Sig) -> Result<(), AllocError>
     ensures target { machine.new.target ≡ machine.old.target }
-    ensures took { OnOk result (Takes on_words machine.old.target sig.now (held machine.old) (held machine.new)) }
+    ensures took { OnOk result (Takes on_words (length sig.now.args) (held machine.old) (held machine.new)) }
 {
     if !on_words {
         return Ok(());
     }
-    machine.take_words(sig)?;
+    machine.take_words(sig.args.len())?;
     Ok(())
 }
 

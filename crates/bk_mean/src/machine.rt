@@ -1,15 +1,16 @@
 // Runs: calls that are under way, one upon the other.
-ghost use Rattle.std.specs.Prelude.{◌≡◌, ◌+◌, ◌≤◌, ◌++◌, ◌↔◌, [], IfOk, OnOk, IsTrue, None, length, drop, slice_index, option_map};
-ghost use Rattle.bk_mean.specs.Running.{held, keep_all, given_back, stack_left, top, Advanced, Begun, GivesBack, GivesTo, Ended, Moved, MovesOn, TakesWords};
+ghost use Rattle.std.specs.Prelude.{◌≡◌, ◌+◌, ◌≤◌, ◌++◌, ◌↔◌, IfOk, OnOk, IsTrue, length, replicate};
+ghost use Rattle.bk_mean.specs.Running.{held, keep_all, kept_number as meant_kept, stack_left, top, Advanced, Begun, Ended, Moved, MovesOn, TakesWords};
 
-use crate::fit::push_fitted;
-use crate::ready::Ready;
+use crate::fit::fitted;
+use crate::number::number_at;
+use crate::ready::{Kept, Ready};
 use crate::step::CallWords;
 use crate::symbols::Callee;
 use crate::turn::{Next, Scene, go_on, put};
-use crate::words::{Words, push_words, spell};
-use bk_func::{Func, Package, Sig};
-use bk_ops::{Target, Ty};
+use crate::words::{Words, push_words};
+use bk_func::{Func, Package, TRAP_EXIT};
+use bk_ops::{Family, Target};
 use std::alloc::{AllocError, Global};
 
 /// A call that is under way.
@@ -52,42 +53,35 @@ impl Machine {
         }
     }
 
-    /// Takes the words that were written for a call at hand, as the numbers that they spell.
-    pub(crate) fn take_words(&mut self, sig: &Sig) -> Result<(), AllocError>
+    /// Takes the words that were written for a call behind those at hand, so many in all.
+    pub(crate) fn take_words(&mut self, count: usize) -> Result<(), AllocError>
         ensures target { self.new.target ≡ self.old.target }
-        ensures took { OnOk result (TakesWords self.old.target sig.now (held self.old) (held self.new)) }
+        ensures took { OnOk result (TakesWords count (held self.old) (held self.new)) }
     {
-        self.hand.clear();
+        let regs = self.hand.len();
         if let Some(call) = self.calls.last_mut() {
-            spell(&mut self.hand, self.target, &sig.args, &call.words.out, 0)?;
+            push_words(
+                &mut self.hand,
+                &call.words.out,
+                regs as u64,
+                count.saturating_sub(regs) as u64,
+            )?;
             call.words.out.clear();
         }
         Ok(())
     }
 
     /// Begins a call of a function on the numbers at hand.
-    pub(crate) fn begin(
-        &mut self,
-        func: usize,
-        sig: &Sig,
-        ready: &Ready,
-        stack: u64,
-    ) -> Result<(), AllocError>
+    pub(crate) fn begin(&mut self, func: usize, ready: &Ready, stack: u64) -> Result<(), AllocError>
         ensures target { self.new.target ≡ self.old.target }
-        ensures begun { OnOk result (Begun self.old.target func sig.now (length ready.now.values.items) stack (held self.old) (held self.new)) }
+        ensures begun { OnOk result (Begun func (length ready.now.values.items) stack (held self.old) (held self.new)) }
     {
         let base = self.numbers.len();
-        let end = base
-            .checked_add(ready.values.len())
-            .and_then(|end| end.checked_add(1));
-        let Some(end) = end else {
-            return Err(AllocError);
-        };
-        self.numbers.resize(end, 0)?;
-        push_fitted(&mut self.numbers, self.target, &sig.args, &self.hand)?;
+        push_frame(&mut self.numbers, ready.values.len(), &self.hand)?;
         let words = CallWords {
             out: Words::new(self.alloc),
             back: Words::new(self.alloc),
+            regs: Vec::new(self.alloc),
         };
         self.calls.push(Activation {
             func,
@@ -124,39 +118,63 @@ impl Machine {
                 self.calls.push(call)?;
                 return Ok(next);
             }
-            self.end(&call, pkg, readies)?;
+            self.end(&call, pkg, readies);
         }
         Ok(Next::Return)
     }
 
-    /// Ends a call, the results of which are at hand.
-    fn end(
-        &mut self,
-        call: &Activation,
-        pkg: &Package,
-        readies: &[Option<Ready>],
-    ) -> Result<(), AllocError>
-        ensures ended { OnOk result (Ended self.old.target pkg.now readies.now (top self.old.calls.items) call.now (held self.old) (held self.new)) }
+    /// Ends a call, the results of which are at hand: its caller keeps of them what its values do; where
+    /// there is no caller, they stay at hand.
+    fn end(&mut self, call: &Activation, pkg: &Package, readies: &[Option<Ready>])
+        ensures ended { Ended self.old.target pkg.now readies.now (top self.old.calls.items) call.now (held self.old) (held self.new) }
         ensures window { self.new.window ≡ self.old.window }
         ensures calls { self.new.calls ≡ self.old.calls }
         ensures target { self.new.target ≡ self.old.target }
     {
-        let (Some(func), Some(Some(ready))) = (pkg.funcs.get(call.func), readies.get(call.func))
-        else {
-            return Ok(());
+        let Some(caller) = self.calls.last() else {
+            return;
         };
-        give_back(
-            self.alloc,
-            self.target,
-            readies,
-            self.calls.last(),
-            &func.sig,
-            ready.values.len(),
-            call.base,
+        let (Some(func), Some(Some(ready))) = (pkg.funcs.get(call.func), readies.get(caller.func))
+        else {
+            return;
+        };
+        let Some(kept) = ready.kept.get(caller.called_by) else {
+            return;
+        };
+        self.numbers.truncate(call.base);
+        keep(
             &mut self.numbers,
-            &mut self.hand,
-        )
+            self.target,
+            func.sig.args.len(),
+            caller.base,
+            kept,
+            &self.hand,
+        );
     }
+}
+
+/// Appends the numbers of a call: a 0 for each of so many values and one more, and its arguments.
+fn push_frame(numbers: &mut Vec<u64>, values: usize, args: &[u64]) -> Result<(), AllocError>
+    ensures { OnOk result (numbers.new.items ≡ numbers.old.items ++ (replicate (values + 1) 0 ++ args.now)) }
+{
+    push_zeros(numbers, values)?;
+    numbers.extend_from_slice(args)?;
+    Ok(())
+}
+
+/// Appends a 0 for each of so many values, and one more.
+fn push_zeros(numbers: &mut Vec<u64>, values: usize) -> Result<(), AllocError>
+    ensures { OnOk result (numbers.new.items ≡ numbers.old.items ++ replicate (values + 1) 0) }
+{
+    let end = numbers
+        .len()
+        .checked_add(values)
+        .and_then(|end| end.checked_add(1));
+    let Some(end) = end else {
+        return Err(AllocError);
+    };
+    numbers.resize(end, 0)?;
+    Ok(())
 }
 
 /// Goes on with a call until its block is left.
@@ -173,10 +191,10 @@ fn go(
     ensures { IfOk result (λ next. Moved target pkg.now readies.now call.old call.new (record { window = window.old.items; hand = hand.old.items; numbers = numbers.old.items }) (record { window = window.new.items; hand = hand.new.items; numbers = numbers.new.items }) next) }
 {
     let (Some(func), Some(Some(ready))) = (pkg.funcs.get(call.func), readies.get(call.func)) else {
-        return Ok(Next::Trap(6));
+        return Ok(Next::Trap(TRAP_EXIT));
     };
     if call.base > numbers.len() {
-        return Ok(Next::Trap(6));
+        return Ok(Next::Trap(TRAP_EXIT));
     }
     let next = go_in(target, func, ready, call, window, hand, numbers)?;
     Ok(next)
@@ -214,116 +232,36 @@ fn is_return(next: Next) -> bool
     }
 }
 
-/// Ends a call: the results at hand, each modulo 2 to the width of its type, go to the values of the
-/// caller that keep them, or stay at hand where there is no caller.
-#[allow(clippy::too_many_arguments)]
-fn give_back(
-    alloc: Global,
+/// Gives results of a call to the values of its caller that keep them, from the first place on, where the
+/// function that was called takes so many arguments.
+fn keep(
+    numbers: &mut [u64],
     target: Target,
-    readies: &[Option<Ready>],
-    caller: Option<&Activation>,
-    sig: &Sig,
-    values: usize,
-    base: usize,
-    numbers: &mut Vec<u64>,
-    hand: &mut Vec<u64>,
-) -> Result<(), AllocError>
-    ensures { OnOk result (GivesBack target readies.now (option_map (λ c. c.now) caller.entry) sig.now values base numbers.old.items hand.old.items numbers.new.items hand.new.items) }
+    count: usize,
+    first: usize,
+    kept: &[Kept],
+    given: &[u64],
+)
+    ensures { numbers.new ≡ keep_all target count first kept.now given.now numbers.old }
 {
-    let mut results = Vec::with_capacity(alloc, hand.len())?;
-    push_fitted(&mut results, target, &sig.results, hand)?;
-    hand.clear();
-    match caller {
-        None => hand.extend_from_slice(&results),
-        Some(caller) => give_to(
-            target, readies, caller, sig, values, base, &results, numbers, hand,
-        ),
+    for one in kept {
+        put(
+            numbers,
+            first,
+            one.place,
+            kept_number(target, count, one, given),
+        );
     }
 }
 
-/// Gives the results of a call to the values of its caller that keep them; the list of numbers at hand
-/// begins empty.
-#[allow(clippy::too_many_arguments)]
-fn give_to(
-    target: Target,
-    readies: &[Option<Ready>],
-    caller: &Activation,
-    sig: &Sig,
-    values: usize,
-    base: usize,
-    results: &[u64],
-    numbers: &mut Vec<u64>,
-    hand: &mut Vec<u64>,
-) -> Result<(), AllocError>
-    requires { hand.old.items ≡ [] }
-    ensures { OnOk result (GivesTo target readies.now caller.now sig.now values base results.now numbers.old.items numbers.new.items) }
+/// The number of a value that keeps a result: a result is cut to its type, and a word counted behind the
+/// arguments.
+fn kept_number(target: Target, count: usize, kept: &Kept, given: &[u64]) -> u64
+    ensures { result ≡ meant_kept target count kept.now given.now }
 {
-    let Some(Some(ready)) = readies.get(caller.func) else {
-        return Ok(());
-    };
-    let (Some(call), Some(kept)) = (
-        ready.values.get(caller.called_by),
-        ready.kept.get(caller.called_by),
-    ) else {
-        return Ok(());
-    };
-    take_given(
-        hand,
-        call.on_words,
-        target,
-        sig,
-        arguments(numbers, base, values),
-        results,
-    )?;
-    numbers.truncate(base);
-    keep(numbers, caller.base, kept, hand);
-    Ok(())
-}
-
-/// The arguments of a call whose numbers begin at a base with those of so many values and one more.
-fn arguments(numbers: &[u64], base: usize, values: usize) -> &[u64]
-    ensures { result.now ≡ drop (base + values + 1) numbers.now }
-{
-    match base.checked_add(values) {
-        Some(end) if end < numbers.len() => &numbers[end + 1..],
-        _ => &numbers[numbers.len()..],
-    }
-}
-
-/// Appends what a call gives back: its results, or the words of its arguments and results.
-fn take_given(
-    list: &mut Vec<u64>,
-    on_words: bool,
-    target: Target,
-    sig: &Sig,
-    args: &[u64],
-    results: &[u64],
-) -> Result<(), AllocError>
-    ensures { OnOk result (list.new.items ≡ list.old.items ++ given_back on_words target sig.now args.now results.now) }
-{
-    if on_words {
-        push_words(list, target, &sig.args, args)?;
-        push_words(list, target, &sig.results, results)
-    } else {
-        list.extend_from_slice(results)
-    }
-}
-
-/// Puts what is kept of a call's results or words in its places, from the first on.
-fn keep(numbers: &mut [u64], first: usize, kept: &[(u64, usize)], given: &[u64])
-    ensures { numbers.new ≡ keep_all first kept.now given.now numbers.old }
-{
-    for (index, place) in kept {
-        put(numbers, first, *place, number_at(given, *index));
-    }
-}
-
-fn number_at(numbers: &[u64], index: u64) -> u64
-    ensures { result ≡ slice_index numbers.now index }
-{
-    if index < numbers.len() as u64 {
-        numbers[index as usize]
-    } else {
-        0
+    match kept.family {
+        Family::SelectN => fitted(target, kept.ty, number_at(given, kept.index)),
+        Family::ResWord => number_at(given, kept.index.saturating_sub(count as u64)),
+        _ => number_at(given, kept.index),
     }
 }

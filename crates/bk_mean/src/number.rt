@@ -1,5 +1,5 @@
 // The number of one value, at the numbers of its arguments.
-ghost use Rattle.std.specs.Prelude.{◌≡◌, ◌+◌, ◌%◌, ◌^◌, map, slice_index};
+ghost use Rattle.std.specs.Prelude.{◌≡◌, ◌+◌, ◌%◌, ◌^◌, ◌++◌, OnOk, map, slice_index};
 ghost use Rattle.bk_num.specs.Word.{residue as low_bits};
 ghost use Rattle.bk_ops.specs.Types.{word_width};
 ghost use Rattle.bk_ops.specs.Values.{pure_value};
@@ -9,6 +9,7 @@ ghost use Rattle.bk_mean.specs.Machine.{arg_number};
 use crate::fit::word_bits;
 use bk_num::{residue, sext, trunc};
 use bk_ops::{Family, Op, RvOp, Target, Ty, eval_op, size};
+use std::alloc::AllocError;
 
 /// The number at a place, 0 past the end.
 pub(crate) fn at(numbers: &[u64], place: usize) -> u64
@@ -20,6 +21,17 @@ pub(crate) fn at(numbers: &[u64], place: usize) -> u64
     }
 }
 
+/// The same of a count that may be past 2^63.
+pub(crate) fn number_at(numbers: &[u64], index: u64) -> u64
+    ensures { result ≡ slice_index numbers.now index }
+{
+    if index < numbers.len() as u64 {
+        numbers[index as usize]
+    } else {
+        0
+    }
+}
+
 /// The number of a value's argument, 0 where it has none there.
 pub(crate) fn arg(numbers: &[u64], args: &[usize], index: usize) -> u64
     ensures { result ≡ arg_number numbers.now args.now index }
@@ -28,6 +40,20 @@ pub(crate) fn arg(numbers: &[u64], args: &[usize], index: usize) -> u64
         Some(place) => at(numbers, *place),
         None => 0,
     }
+}
+
+/// Appends the numbers at places.
+pub(crate) fn push_numbers(
+    list: &mut Vec<u64>,
+    numbers: &[u64],
+    places: &[usize],
+) -> Result<(), AllocError>
+    ensures { OnOk result (list.new.items ≡ list.old.items ++ map (slice_index numbers.now) places.now) }
+{
+    for place in places {
+        list.push(at(numbers, *place))?;
+    }
+    Ok(())
 }
 
 /// The number of an op, at the numbers of its arguments.

@@ -3,22 +3,22 @@ ghost use Rattle.std.specs.Prelude.{◌≡◌, ℕ, ◌+◌, ◌++◌, ◌^◌, 
 ghost use Rattle.std.specs.List.{All, filter_map};
 ghost use Rattle.bk_func.specs.Records.{ValueRecord, FuncRecord, PackageRecord};
 ghost use Rattle.bk_func.specs.Edits.{nth_place, block_of};
-ghost use Rattle.bk_func.specs.Numbers.{room, natural as meant_natural, origin_of as meant_origin};
+ghost use Rattle.bk_func.specs.Numbers.{room, origin_of as meant_origin};
 ghost use Rattle.bk_func.specs.Effects.{is_phi as meant_phi};
 ghost use Rattle.bk_func.specs.Meaning.{without_memory as meant_without};
 ghost use Rattle.bk_mean.specs.Numbering.{IsNumbering, place_in};
 ghost use Rattle.bk_mean.specs.Memories.{taken_place, taken_places, all_taken, IsArranged};
 ghost use Rattle.bk_mean.specs.Symbols.{IsNaming};
-ghost use Rattle.bk_mean.specs.Ready.{IsReady, IsReadyValue, AreReadyValues, IsReadyBlock, AreReadyBlocks, IsReadyEdge, StandsAt, KeepsResults, call_place, phis_from, control_place, nth_in};
+ghost use Rattle.bk_mean.specs.Ready.{IsReady, IsReadyValue, AreReadyValues, IsReadyBlock, AreReadyBlocks, IsReadyEdge, StandsAt, KeepsResults, call_place, kept_by as meant_kept, phis_from, control_place, nth_in};
 
 use crate::arrange::arrange;
 use crate::numbering::Numbering;
-use crate::ready::{Edge, Ready, ReadyBlock, ReadyValue};
+use crate::ready::{Edge, Kept, Ready, ReadyBlock, ReadyValue};
 use crate::role::{Origin, natural, origin_of};
 use crate::states::{due, local};
 use crate::symbols::Symbols;
 use bk_func::{Block, Func, Value};
-use bk_ops::Family;
+use bk_ops::{Family, is_word_call};
 use smallvec::SmallVec;
 use std::alloc::{AllocError, Global};
 
@@ -79,7 +79,7 @@ fn ready_value(
         args: arg_places(alloc, numbering, value.args.as_slice())?,
         address: symbols.address(value.aux),
         callee: symbols.callee(value.aux),
-        on_words: value.op.family == Family::Call,
+        on_words: is_word_call(value.op.family),
         gives_results: value.op.family == Family::MakeResult,
     })
 }
@@ -328,7 +328,7 @@ fn kept_results(
     alloc: Global,
     numbering: &Numbering,
     blocks: &[Block],
-) -> Result<Vec<Vec<(u64, usize)>>, AllocError>
+) -> Result<Vec<Vec<Kept>>, AllocError>
     ensures length { IfOk result (λ kept. length kept.items ≡ length numbering.now.roots.items) }
     ensures results { IfOk result (λ kept. (f : FuncRecord) → IsNumbering f numbering.now → KeepsResults f (flat_map (λ b. b.values) blocks.now) (map (λ v. v.items) kept.items)) }
 {
@@ -339,7 +339,7 @@ fn kept_results(
     Ok(kept)
 }
 
-fn none_kept(alloc: Global, count: usize) -> Result<Vec<Vec<(u64, usize)>>, AllocError>
+fn none_kept(alloc: Global, count: usize) -> Result<Vec<Vec<Kept>>, AllocError>
     ensures length { IfOk result (λ kept. length kept.items ≡ count) }
     ensures none { IfOk result (λ kept. (k : ℕ) → get_or (map (λ v. v.items) kept.items) k [] ≡ []) }
 {
@@ -352,7 +352,7 @@ fn none_kept(alloc: Global, count: usize) -> Result<Vec<Vec<(u64, usize)>>, Allo
 
 /// Each result goes to the call that it is of.
 fn keep_results(
-    kept: &mut [Vec<(u64, usize)>],
+    kept: &mut [Vec<Kept>],
     numbering: &Numbering,
     values: &[Value],
 ) -> Result<(), AllocError>
@@ -361,17 +361,22 @@ fn keep_results(
 {
     for value in values {
         if let Some(call) = call_of(numbering, value) {
-            keep(kept, call, index_of(value), numbering.place(value.id))?;
+            keep(kept, call, kept_by(numbering, value))?;
         }
     }
     Ok(())
 }
 
-/// Which result or word of its call the value is.
-fn index_of(value: &Value) -> u64
-    ensures { result ≡ meant_natural value.now.int }
+/// What a value keeps of the results of its call.
+fn kept_by(numbering: &Numbering, value: &Value) -> Kept
+    ensures { (f : FuncRecord) → IsNumbering f numbering.now → result ≡ meant_kept f value.now }
 {
-    natural(value.int)
+    Kept {
+        index: natural(value.int),
+        place: numbering.place(value.id),
+        family: value.op.family,
+        ty: value.ty,
+    }
 }
 
 /// The place of the call that the value is a result of.
@@ -384,17 +389,12 @@ fn call_of(numbering: &Numbering, value: &Value) -> Option<usize>
     }
 }
 
-fn keep(
-    kept: &mut [Vec<(u64, usize)>],
-    call: usize,
-    index: u64,
-    place: usize,
-) -> Result<(), AllocError>
+fn keep(kept: &mut [Vec<Kept>], call: usize, one: Kept) -> Result<(), AllocError>
     ensures length { length kept.new ≡ length kept.old }
-    ensures kept { OnOk result ((k : ℕ) → k < length kept.old → get_or (map (λ v. v.items) kept.new) k [] ≡ get_or (map (λ v. v.items) kept.old) k [] ++ (if call == k then (index, place) ∷ [] else [])) }
+    ensures kept { OnOk result ((k : ℕ) → k < length kept.old → get_or (map (λ v. v.items) kept.new) k [] ≡ get_or (map (λ v. v.items) kept.old) k [] ++ (if call == k then one ∷ [] else [])) }
 {
     if call < kept.len() {
-        kept[call].push((index, place))?;
+        kept[call].push(one)?;
     }
     Ok(())
 }

@@ -1,5 +1,6 @@
 // What is known of a function before a run.
 use crate::symbols::Callee;
+use bk_ops::{Family, Ty};
 use smallvec::SmallVec;
 
 /// A function made ready to run. A call of it has a number for each value, by places, and one more that
@@ -7,9 +8,8 @@ use smallvec::SmallVec;
 #[derive(Drop)]
 pub(crate) struct Ready {
     pub(crate) values: Vec<ReadyValue>,
-    /// What is kept of the results, for each value that is a call: the number of a result or a word, and
-    /// a place.
-    pub(crate) kept: Vec<Vec<(u64, usize)>>,
+    /// What is kept of the results, for each value that is a call.
+    pub(crate) kept: Vec<Vec<Kept>>,
     pub(crate) blocks: Vec<ReadyBlock>,
 }
 
@@ -22,10 +22,21 @@ pub(crate) struct ReadyValue {
     pub(crate) address: u64,
     /// The function that it calls.
     pub(crate) callee: Callee,
-    /// The call is on the words that were written.
+    /// The call is on words: those of its arguments, then those that were written.
     pub(crate) on_words: bool,
     /// Its arguments without memory are the results of the function.
     pub(crate) gives_results: bool,
+}
+
+/// A value that keeps a result of a call.
+#[derive(Clone, Copy)]
+pub(crate) struct Kept {
+    /// The number beside its op: which result or word it is.
+    pub(crate) index: u64,
+    /// The place of its number.
+    pub(crate) place: usize,
+    pub(crate) family: Family,
+    pub(crate) ty: Ty,
 }
 
 /// What is known of a block.

@@ -12,13 +12,14 @@ ghost use Rattle.bk_mean.specs.Seen.{seen_origin, seen_effect};
 ghost use Rattle.bk_mean.specs.Turned.{IsTurn};
 ghost use Rattle.bk_mean.specs.Step.{IsNoCall, Reads, Stands, Follows, IsSettled, IsActed, IsCalling, Sees, settled, fault_of, with_words, seeing, after_run, is_store as is_store_op, is_byte_store as is_byte_store_op, size_beside as meant_beside};
 
-use crate::fit::word_bits;
+use crate::fit::{fitted, word_bits};
 use crate::memory::{DATA_BASE, copy_bytes, write_zeros};
-use crate::number::{address, arg, at, computed, load_size, made_of};
+use crate::number::{address, arg, at, computed, load_size, made_of, number_at, push_numbers};
+use crate::prepare::without_memory;
 use crate::ready::ReadyValue;
 use crate::role::{Effect, Origin, effect_of, natural, origin_of};
-use crate::words::{Words, word_at};
-use bk_func::{Aux, Value};
+use crate::words::Words;
+use bk_func::{Aux, TRAP_BOUNDS, TRAP_NIL, Value};
 use bk_num::{load_in, store_in, trunc};
 use bk_ops::{ArmOp, Family, Op, RvOp, Target, Ty, size};
 use std::alloc::AllocError;
@@ -34,19 +35,20 @@ pub(crate) enum After {
     Call,
 }
 
-/// What a call is on: the types and numbers of its arguments.
+/// What a call is on: the target, and the numbers of its arguments.
 #[derive(Clone, Copy)]
 pub(crate) struct Given<'a> {
     pub(crate) target: Target,
-    pub(crate) types: &'a [Ty],
     pub(crate) args: &'a [u64],
 }
 
-/// The words of a call: those for its next call, and those that it gives back.
+/// The words of a call: those for its next call, and those that it gives back, of which the first are in
+/// registers.
 #[derive(Drop)]
 pub(crate) struct CallWords {
     pub(crate) out: Words,
     pub(crate) back: Words,
+    pub(crate) regs: Vec<u64>,
 }
 
 /// Does what the value at a place does.
@@ -59,7 +61,7 @@ pub(crate) fn step(
     window: &mut Vec<u8>,
     words: &mut CallWords,
 ) -> Result<After, AllocError>
-    ensures { IfOk result (λ after. IsTurn (record { target = given.entry.target; types = given.entry.types.now; args = given.entry.args.now }) value.now ready.now place (record { numbers = numbers.old; window = window.old.items; words = words.old }) (record { numbers = numbers.new; window = window.new.items; words = words.new }) after) }
+    ensures { IfOk result (λ after. IsTurn (record { target = given.entry.target; args = given.entry.args.now }) value.now ready.now place (record { numbers = numbers.old; window = window.old.items; words = words.old }) (record { numbers = numbers.new; window = window.new.items; words = words.new }) after) }
 {
     match effect_of(value.op.family, value.ty) {
         Some(effect) => step_memory(effect, value, ready, given.target, numbers, window, words),
@@ -101,8 +103,8 @@ fn settle(
     window: &[u8],
 ) -> After
     ensures on { IsNoCall result }
-    ensures fault { (p : Program) (f : FuncRecord) (e : Env) (m : ℕ → ℕ) → Stands p f e given.entry.target given.entry.types.now given.entry.args.now → Reads numbers.old ready.now.args.items m value.now.args → IsSettled (seen_origin origin) given.entry.target value.now → fault_of result ≡ fault_by (seen_origin origin) given.entry.target m window.now value.now }
-    ensures number { (p : Program) (f : FuncRecord) (e : Env) (m : ℕ → ℕ) → Stands p f e given.entry.target given.entry.types.now given.entry.args.now → ready.now.address ≡ address_of p.pkg value.now.aux → Reads numbers.old ready.now.args.items m value.now.args → IsSettled (seen_origin origin) given.entry.target value.now → Sees f e window.now (seen_origin origin) value.now → fault_of result ≡ None → numbers.new ≡ settled (seen_origin origin) numbers.old place (number_by (seen_origin origin) p f e m value.now) }
+    ensures fault { (p : Program) (f : FuncRecord) (e : Env) (m : ℕ → ℕ) → Stands p e given.entry.target given.entry.args.now → Reads numbers.old ready.now.args.items m value.now.args → IsSettled (seen_origin origin) given.entry.target value.now → fault_of result ≡ fault_by (seen_origin origin) given.entry.target m window.now value.now }
+    ensures number { (p : Program) (f : FuncRecord) (e : Env) (m : ℕ → ℕ) → Stands p e given.entry.target given.entry.args.now → ready.now.address ≡ address_of p.pkg value.now.aux → Reads numbers.old ready.now.args.items m value.now.args → IsSettled (seen_origin origin) given.entry.target value.now → Sees f e window.now (seen_origin origin) value.now → fault_of result ≡ None → numbers.new ≡ settled (seen_origin origin) numbers.old place (number_by (seen_origin origin) p f e m value.now) }
 {
     match origin {
         Origin::Phi | Origin::Result => After::On,
@@ -124,12 +126,16 @@ fn number(
     given: Given<'_>,
     numbers: &[u64],
 ) -> u64
-    ensures { (p : Program) (f : FuncRecord) (e : Env) (m : ℕ → ℕ) → Stands p f e given.entry.target given.entry.types.now given.entry.args.now → ready.now.address ≡ address_of p.pkg value.now.aux → Reads numbers.now ready.now.args.items m value.now.args → Follows (seen_origin origin) value.now → result ≡ number_by (seen_origin origin) p f e m value.now }
+    ensures { (p : Program) (f : FuncRecord) (e : Env) (m : ℕ → ℕ) → Stands p e given.entry.target given.entry.args.now → ready.now.address ≡ address_of p.pkg value.now.aux → Reads numbers.now ready.now.args.items m value.now.args → Follows (seen_origin origin) value.now → result ≡ number_by (seen_origin origin) p f e m value.now }
 {
     let places = ready.args.as_slice();
     match origin {
-        Origin::Argument => at(given.args, place_of_arg(value.aux)),
-        Origin::ArgumentWord => word_at(given.target, given.types, given.args, natural(value.int)),
+        Origin::Argument => fitted(
+            given.target,
+            value.ty,
+            at(given.args, place_of_arg(value.aux)),
+        ),
+        Origin::ArgumentWord => number_at(given.args, natural(value.int)),
         Origin::Address => ready.address,
         Origin::Same => arg(numbers, places, 0),
         Origin::Computed => {
@@ -167,7 +173,7 @@ fn check(ready: &ReadyValue, place: usize, target: Target, numbers: &mut [u64]) 
     let number = arg(numbers, ready.args.as_slice(), 0);
     set(numbers, place, number);
     if trunc(word_bits(target), number) == 0 {
-        After::Trap(1)
+        After::Trap(TRAP_NIL)
     } else {
         After::On
     }
@@ -215,13 +221,22 @@ fn act(
         Effect::Store => Ok(store(value, target, first, second, window)),
         Effect::Zeros => Ok(zeros(value, target, first, window)),
         Effect::Move => Ok(copy(value, target, first, second, window)),
-        Effect::PanicBounds => Ok(After::Trap(2)),
+        Effect::PanicBounds => Ok(After::Trap(TRAP_BOUNDS)),
         Effect::OutWord => {
             words.out.set(natural(value.int), first)?;
             Ok(After::On)
         }
         Effect::RetWord => {
             words.back.set(natural(value.int), first)?;
+            Ok(After::On)
+        }
+        Effect::RetWords => {
+            words.regs.clear();
+            push_numbers(
+                &mut words.regs,
+                numbers,
+                without_memory(ready.args.as_slice()),
+            )?;
             Ok(After::On)
         }
         Effect::Trap => Ok(After::Trap(trap(value.int))),

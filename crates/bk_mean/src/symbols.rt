@@ -4,20 +4,15 @@ ghost use Rattle.std.specs.List.{position_or_len};
 ghost use Rattle.bk_num.specs.Memory.{data_base};
 ghost use Rattle.bk_func.specs.Records.{PackageRecord};
 ghost use Rattle.bk_func.specs.Numbers.{rounded, place_of_var, address_of};
-ghost use Rattle.bk_func.specs.Meaning.{symbol_of};
+ghost use Rattle.bk_func.specs.Symbols.{symbol_of};
 ghost use Rattle.bk_mean.specs.Symbols.{IsNaming, callee_found, callee_of, starts_from};
 
 use crate::memory::DATA_BASE;
 use crate::number::at;
 use crate::places::first_places;
-use bk_func::{Aux, Func, Package, Var};
+use bk_func::{Aux, Func, PANIC_DIVIDE, PANIC_SHIFT, Package, Var};
 use std::alloc::{AllocError, Global};
 use std::collections::BTreeMap;
-
-/// The names of the functions that a division and a shift call where their check fails.
-const PANIC_DIVIDE: u32 = 4_294_967_294;
-
-const PANIC_SHIFT: u32 = 4_294_967_295;
 
 /// What is called.
 #[derive(Clone, Copy)]

@@ -1,20 +1,18 @@
 // The rest of a block, and the way out of it.
-ghost use Rattle.std.specs.Prelude.{◌≡◌, ◌+◌, ◌<◌, ◌↔◌, ◌++◌, IfOk, OnOk, IsTrue, Some, length, map, drop, slice_get, slice_index, slice_set};
+ghost use Rattle.std.specs.Prelude.{◌≡◌, ◌+◌, ◌<◌, ◌↔◌, ◌++◌, IfOk, OnOk, IsTrue, Some, length, drop, slice_get, slice_set};
 ghost use Rattle.bk_func.specs.Records.{BlockRecord};
-ghost use Rattle.bk_func.specs.Words.{numbers_at, count_words as meant_words};
 ghost use Rattle.bk_mean.specs.declared.ready.ReadyBlock.{ReadyBlock as Course};
-ghost use Rattle.bk_mean.specs.Seen.{word_in};
 ghost use Rattle.bk_mean.specs.Turned.{Turned, TurnAt};
-ghost use Rattle.bk_mean.specs.Left.{going, phi_number as meant_phi_number, phi_numbers, put_all, results_of, Begins, Crosses, Enters, Leaves, Goes, Ran, GoesOn};
+ghost use Rattle.bk_mean.specs.Left.{given_words, going, phi_number as meant_phi_number, phi_numbers, put_all, results_of, Begins, Crosses, Enters, Leaves, Goes, Ran, GoesOn};
 
 use crate::machine::Activation;
-use crate::number::{arg, at};
+use crate::number::{arg, at, push_numbers};
 use crate::prepare::without_memory;
 use crate::ready::{Edge, Ready, ReadyBlock, ReadyValue};
 use crate::step::{After, CallWords, Given, set, step};
 use crate::symbols::Callee;
-use crate::words::{Words, spell};
-use bk_func::{Block, Func, Kind, Sig, count_words};
+use crate::words::push_words;
+use bk_func::{Block, Func, Kind, Sig, TRAP_EXIT};
 use bk_ops::Target;
 use std::alloc::AllocError;
 
@@ -53,16 +51,15 @@ pub(crate) fn go_on(
     let ready = scene.ready;
     let (Some(block), Some(course)) = (func.blocks.get(call.block), ready.blocks.get(call.block))
     else {
-        return Ok(Next::Trap(6));
+        return Ok(Next::Trap(TRAP_EXIT));
     };
     let values = ready.values.len();
     if numbers.len() <= values {
-        return Ok(Next::Trap(6));
+        return Ok(Next::Trap(TRAP_EXIT));
     }
     let (numbers, args) = numbers.split_at_mut(values + 1);
     let given = Given {
         target: scene.target,
-        types: &func.sig.args,
         args,
     };
     run_block(scene, block, course, call, given, numbers, window, hand)
@@ -80,13 +77,12 @@ fn run_block(
     window: &mut Vec<u8>,
     hand: &mut Vec<u64>,
 ) -> Result<Next, AllocError>
-    requires target { given.target ≡ scene.target }
-    requires types { given.types.now ≡ scene.func.now.sig.args }
-    ensures { IfOk result (λ next. Ran scene.entry.target scene.entry.func.now scene.entry.ready.now block.now course.now given.entry.args.now (record { call = call.old; numbers = numbers.old; hand = hand.old.items }) (record { call = call.new; numbers = numbers.new; hand = hand.new.items }) window.old.items window.new.items next) }
+    ensures { IfOk result (λ next. Ran given.entry.target scene.entry.func.now scene.entry.ready.now block.now course.now given.entry.args.now (record { call = call.old; numbers = numbers.old; hand = hand.old.items }) (record { call = call.new; numbers = numbers.new; hand = hand.new.items }) window.old.items window.new.items next) }
 {
     let ready = scene.ready;
     let after = turns(block, course, &ready.values, call, given, numbers, window)?;
-    follow(after, scene, block, course, call, numbers, hand)
+    let next = follow(after, scene, block, course, call, numbers, hand)?;
+    Ok(next)
 }
 
 /// Goes where what came after the last value leads.
@@ -99,7 +95,7 @@ fn follow(
     numbers: &mut [u64],
     hand: &mut Vec<u64>,
 ) -> Result<Next, AllocError>
-    ensures { IfOk result (λ next. Goes after block.now.kind scene.entry.target scene.entry.func.now.sig scene.entry.ready.now course.now (record { call = call.old; numbers = numbers.old; hand = hand.old.items }) (record { call = call.new; numbers = numbers.new; hand = hand.new.items }) next) }
+    ensures { IfOk result (λ next. Goes after block.now.kind scene.entry.func.now.sig scene.entry.ready.now course.now (record { call = call.old; numbers = numbers.old; hand = hand.old.items }) (record { call = call.new; numbers = numbers.new; hand = hand.new.items }) next) }
 {
     let ready = scene.ready;
     match after {
@@ -120,7 +116,7 @@ fn turns(
     numbers: &mut [u64],
     window: &mut Vec<u8>,
 ) -> Result<After, AllocError>
-    ensures turned { IfOk result (λ after. Turned (record { target = given.entry.target; types = given.entry.types.now; args = given.entry.args.now }) block.now course.now.first values.now (drop call.old.next course.now.order.items) (record { numbers = numbers.old; window = window.old.items; words = call.old.words }) (record { numbers = numbers.new; window = window.new.items; words = call.new.words }) (drop call.new.next course.now.order.items) call.new.called_by after) }
+    ensures turned { IfOk result (λ after. Turned (record { target = given.entry.target; args = given.entry.args.now }) block.now course.now.first values.now (drop call.old.next course.now.order.items) (record { numbers = numbers.old; window = window.old.items; words = call.old.words }) (record { numbers = numbers.new; window = window.new.items; words = call.new.words }) (drop call.new.next course.now.order.items) call.new.called_by after) }
     ensures call { OnOk result (call.new ≡ going call.old call.new.next call.new.called_by call.new.words) }
 {
     for at in call.next..course.order.len() {
@@ -167,7 +163,7 @@ fn turn(
     window: &mut Vec<u8>,
     words: &mut CallWords,
 ) -> Result<Option<(usize, After)>, AllocError>
-    ensures { IfOk result (λ turn. TurnAt (record { target = given.entry.target; types = given.entry.types.now; args = given.entry.args.now }) block.now first values.now local (record { numbers = numbers.old; window = window.old.items; words = words.old }) (record { numbers = numbers.new; window = window.new.items; words = words.new }) turn) }
+    ensures { IfOk result (λ turn. TurnAt (record { target = given.entry.target; args = given.entry.args.now }) block.now first values.now local (record { numbers = numbers.old; window = window.old.items; words = words.old }) (record { numbers = numbers.new; window = window.new.items; words = words.new }) turn) }
 {
     let Some(value) = block.values.get(local) else {
         return Ok(None);
@@ -192,7 +188,7 @@ fn begin_call(
     ensures { IfOk result (λ next. Begins (slice_get values.now call.now.called_by) (record { call = call.now; numbers = numbers.now; hand = hand.old.items }) (record { call = call.now; numbers = numbers.now; hand = hand.new.items }) next) }
 {
     let Some(ready) = values.get(call.called_by) else {
-        return Ok(Next::Trap(6));
+        return Ok(Next::Trap(TRAP_EXIT));
     };
     hand.clear();
     push_numbers(hand, numbers, without_memory(ready.args.as_slice()))?;
@@ -200,15 +196,6 @@ fn begin_call(
         callee: ready.callee,
         on_words: ready.on_words,
     })
-}
-
-fn push_numbers(list: &mut Vec<u64>, numbers: &[u64], places: &[usize]) -> Result<(), AllocError>
-    ensures { OnOk result (list.new.items ≡ list.old.items ++ map (slice_index numbers.now) places.now) }
-{
-    for place in places {
-        list.push(at(numbers, *place))?;
-    }
-    Ok(())
 }
 
 /// Leaves the block by its kind.
@@ -220,7 +207,7 @@ fn leave(
     numbers: &mut [u64],
     hand: &mut Vec<u64>,
 ) -> Result<Next, AllocError>
-    ensures { IfOk result (λ next. Leaves block.now.kind scene.entry.target scene.entry.func.now.sig scene.entry.ready.now course.now (record { call = call.old; numbers = numbers.old; hand = hand.old.items }) (record { call = call.new; numbers = numbers.new; hand = hand.new.items }) next) }
+    ensures { IfOk result (λ next. Leaves block.now.kind scene.entry.func.now.sig scene.entry.ready.now course.now (record { call = call.old; numbers = numbers.old; hand = hand.old.items }) (record { call = call.new; numbers = numbers.new; hand = hand.new.items }) next) }
 {
     match block.kind {
         Kind::Plain | Kind::First => cross(scene.ready, course.edge, call, numbers, hand),
@@ -236,7 +223,7 @@ fn leave(
             take_results(scene, course, call, numbers, hand)?;
             Ok(Next::Return)
         }
-        Kind::Exit => Ok(Next::Trap(6)),
+        Kind::Exit => Ok(Next::Trap(TRAP_EXIT)),
     }
 }
 
@@ -251,7 +238,7 @@ fn cross(
     ensures { IfOk result (λ next. Crosses ready.now edge.block edge.place (record { call = call.old; numbers = numbers.old; hand = hand.old.items }) (record { call = call.new; numbers = numbers.new; hand = hand.new.items }) next) }
 {
     match edge.block {
-        None => Ok(Next::Trap(6)),
+        None => Ok(Next::Trap(TRAP_EXIT)),
         Some(block) => enter(ready, block, edge.place, call, numbers, hand),
     }
 }
@@ -268,7 +255,7 @@ fn enter(
     ensures { IfOk result (λ next. Enters ready.now block edge (slice_get ready.now.blocks.items block) (record { call = call.old; numbers = numbers.old; hand = hand.old.items }) (record { call = call.new; numbers = numbers.new; hand = hand.new.items }) next) }
 {
     let Some(course) = ready.blocks.get(block) else {
-        return Ok(Next::Trap(6));
+        return Ok(Next::Trap(TRAP_EXIT));
     };
     hand.clear();
     take_phis(
@@ -344,7 +331,7 @@ fn take_results(
     numbers: &[u64],
     hand: &mut Vec<u64>,
 ) -> Result<(), AllocError>
-    ensures { OnOk result (hand.new.items ≡ results_of (slice_get scene.entry.ready.now.values.items course.now.control) numbers.now scene.entry.target scene.entry.func.now.sig call.now.words.back) }
+    ensures { OnOk result (hand.new.items ≡ results_of (slice_get scene.entry.ready.now.values.items course.now.control) numbers.now scene.entry.func.now.sig call.now.words) }
 {
     let func = scene.func;
     let ready = scene.ready;
@@ -353,19 +340,21 @@ fn take_results(
         Some(control) if control.gives_results => {
             push_numbers(hand, numbers, without_memory(control.args.as_slice()))
         }
-        _ => spell_results(hand, scene.target, &func.sig, &call.words.back),
+        _ => give_words(hand, &func.sig, &call.words),
     }
 }
 
-/// Appends the results that the words given back spell.
-fn spell_results(
-    list: &mut Vec<u64>,
-    target: Target,
-    sig: &Sig,
-    back: &Words,
-) -> Result<(), AllocError>
-    ensures { OnOk result (list.new.items ≡ list.old.items ++ numbers_at target sig.now.results (word_in back.now) (meant_words target sig.now.args)) }
+/// Appends the words that a call gives back: those in registers, then those that were written.
+fn give_words(list: &mut Vec<u64>, sig: &Sig, words: &CallWords) -> Result<(), AllocError>
+    ensures { OnOk result (list.new.items ≡ list.old.items ++ given_words sig.now words.now) }
 {
-    let from = count_words(target, &sig.args);
-    spell(list, target, &sig.results, back, from)
+    list.extend_from_slice(&words.regs)?;
+    let regs = words.regs.len();
+    let from = sig.args.len() as u64 + regs as u64;
+    push_words(
+        list,
+        &words.back,
+        from,
+        sig.results.len().saturating_sub(regs) as u64,
+    )
 }

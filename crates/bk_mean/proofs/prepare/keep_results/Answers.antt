@@ -1,7 +1,6 @@
 use Rattle.std.proofs.Common.{◌++◌, ◌<◌, ◌∙◌, refl, sym, ap, subst, arith, length, map, append-nil, List}
 use Rattle.std.proofs.lemmas.List.{take_all}
 use Rattle.bk_func.specs.Records.{ValueRecord}
-use Rattle.bk_mean.specs.Numbering.{place_in}
 use Rattle.bk_mean.specs.Ready.{KeepsResults}
 use Rattle.bk_mean.proofs.Results.{keeps_more, adds_nothing, adds_result}
 use Rattle.bk_mean.proofs.prepare.keep_results.Goals as goal
@@ -23,8 +22,8 @@ loop-value-preserved c = record {
       (c.loop-value.invariant.results f n before l h)
       (elim c.match-call_of.branch [
         | in-Some+in_ok-keep w ↦ λ k m. rw w.kept-is
-            (adds_result f c.value-item.result c.call_of.result w.in-Some.call w.index_of.result w.place.result (length c.loop-value.kept) (map (λ v. v.items) c.loop-value.kept) (map (λ v. v.items) w.keep.new.kept) (c.call_of.ensures f n) w.in-Some.is
-            w.index_of.ensures (w.place.ensures f n ∙ ap (λ (v : ValueRecord). place_in f v.id) c.value.view_is) w.in_ok-keep.ensures.kept k (omega (arith, m, l, s)))
+            (adds_result f c.value-item.result c.call_of.result w.in-Some.call (length c.loop-value.kept) w.kept_by.result (map (λ v. v.items) c.loop-value.kept) (map (λ v. v.items) w.keep.new.kept) (c.call_of.ensures f n) w.in-Some.is
+            (w.kept_by.ensures f n) w.in_ok-keep.ensures.kept k (omega (arith, m, l, s)))
         | in_default w ↦ λ k m. rw w.kept-is (adds_nothing f c.value-item.result c.call_of.result (map (λ v. v.items) c.loop-value.kept) (c.call_of.ensures f n) w.in_default.is k)
       ]);
 }

@@ -21,7 +21,7 @@ pub loop-at-preserved : goal.loop-at-preserved
 loop-at-preserved c =
     let h : c.loop-at.at < length c.args.course.now.order.items = grind arith in
     let k : c.index-local.result.now ≡ get_or c.args.course.now.order.items c.loop-at.at c.index-local.result.now = search rules in
-    let g : Ground = record { target = c.args.given.target; types = c.args.given.types.now; args = c.args.given.args.now } in
+    let g : Ground = record { target = c.args.given.target; args = c.args.given.args.now } in
     elim c.match-turn.branch [
       | in-Some+else-not-is_on w ↦
           let t = rw w.in-Some.is at c.in_ok-turn.ensures in
@@ -52,7 +52,7 @@ loop-at-preserved c =
 
 pub returns-clause-turned : goal.returns-clause-turned
 returns-clause-turned c =
-    let g : Ground = record { target = c.args.given.target; types = c.args.given.types.now; args = c.args.given.args.now } in
+    let g : Ground = record { target = c.args.given.target; args = c.args.given.args.now } in
     let now : Stage = record { numbers = c.loop-at.numbers; window = c.loop-at.window.items; words = c.loop-at.call.words } in
     let start : Stage = record { numbers = c.args.numbers.now; window = c.args.window.now.items; words = c.args.call.now.words } in
     let l : length c.args.course.now.order.items ≤ c.loop-at.at = grind arith in

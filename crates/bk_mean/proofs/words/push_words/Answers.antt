@@ -1,10 +1,10 @@
-use Rattle.std.proofs.Common.{arith, ◌++◌}
-use Rattle.std.proofs.lemmas.Bool.Decides.{nat_tests}
-use Rattle.bk_func.specs.Words.{all_words}
-use Rattle.bk_mean.proofs.Spelt.{words_none}
+use Rattle.std.proofs.Common.{◌≡◌, ◌+◌, ◌-◌, ◌++◌, ◌∷◌, ◌∙◌, [], ap, arith}
+use Rattle.bk_func.specs.Words.{words_at}
+use Rattle.bk_mean.specs.Seen.{word_in}
+use Rattle.bk_mean.proofs.Written.{words_more}
 use Rattle.bk_mean.proofs.words.push_words.Goals as goal
 
-pub returns-in_default : goal.returns-in_default
-returns-in_default c =
-    words_none c.args.target c.args.types.now c.args.numbers.now c.loop-index.index c.loop-index.list.items (c.args.list.now.items ++ all_words c.args.target c.args.types.now c.args.numbers.now)
-    (grind (arith, nat_tests, c.in_default.ensures.lookup)) c.loop-index.invariant
+pub loop-place-preserved : goal.loop-place-preserved
+loop-place-preserved c =
+    ap (λ xs. xs ++ words_at (word_in c.args.words.now) (c.loop-place.place + 1) ((c.args.from + c.args.count) - (c.loop-place.place + 1))) (c.in_ok-push.ensures.items ∙ ap (λ x. c.loop-place.list.items ++ x ∷ []) c.get.ensures)
+    ∙ words_more (word_in c.args.words.now) c.loop-place.place (c.args.from + c.args.count) c.loop-place.list.items _ (omega arith) c.loop-place.invariant

@@ -1,6 +1,7 @@
-use Rattle.std.proofs.Common.{◌≡◌, ◌++◌, drop}
-use Rattle.bk_func.specs.Words.{all_words}
+use Rattle.std.proofs.Common.{◌≡◌, ◌+◌, ◌-◌, ◌++◌}
+use Rattle.bk_func.specs.Words.{words_at}
+use Rattle.bk_mean.specs.Seen.{word_in}
 use Rattle.bk_mean.proofs.words.push_words.Given as goal
 
-abbrev pub invariant-loop-index : goal.invariant-loop-index
-invariant-loop-index l = l.list.items ++ all_words l.target (drop l.index l.types) (drop l.index l.numbers) ≡ l.initial.list.items ++ all_words l.target l.types l.numbers
+abbrev pub invariant-loop-place : goal.invariant-loop-place
+invariant-loop-place l = l.list.items ++ words_at (word_in l.words) l.place ((l.from + l.count) - l.place) ≡ l.initial.list.items ++ words_at (word_in l.words) l.from l.count

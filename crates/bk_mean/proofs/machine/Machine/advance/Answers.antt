@@ -19,11 +19,11 @@ pub loop-call-preserved : goal.loop-call-preserved
 loop-call-preserved c =
     let z : c.in_ok-next.next ≡ next.Return = c.is_return.ensures.0 (search rules) in
     record {
-      target = c.in_ok-end.ensures.target ∙ c.loop-call.invariant.target;
+      target = c.end.ensures.target ∙ c.loop-call.invariant.target;
       onward = λ e x rest.
           c.loop-call.invariant.onward e x
           (advanced_back _ _ _ _ (held c.loop-call.self) (record { window = c.go.new.window.items; hand = c.go.new.hand.items; numbers = c.go.new.numbers.items; calls = c.pop.new.self.items }) (held c.end.new.self) e c.pop.new.self.items c.in-Some.call c.go.new.call c.in_ok-next.next x
-          (sym c.loop-call.invariant.target) c.in-Some.ensures.items (ap (λ (v : Vec Activation Global). v.items) c.in_ok-end.ensures.calls) c.in_ok-next.ensures z c.in_ok-end.ensures.ended (ap (λ (v : Vec ℕ Global). v.items) c.in_ok-end.ensures.window) rest);
+          (sym c.loop-call.invariant.target) c.in-Some.ensures.items (ap (λ (v : Vec Activation Global). v.items) c.end.ensures.calls) c.in_ok-next.ensures z c.end.ensures.ended (ap (λ (v : Vec ℕ Global). v.items) c.end.ensures.window) rest);
     }
 
 pub returns-clause-advanced : goal.returns-clause-advanced
