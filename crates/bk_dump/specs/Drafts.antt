@@ -6,6 +6,7 @@ use Rattle.std.specs.Option.{option_map_or}
 use Rattle.std.specs.Str.{bytes_eq}
 use Rattle.bk_ops.specs.declared.types.Ty.{Ty}
 use Rattle.bk_func.specs.Records.{SigRecord, VarRecord}
+use Rattle.bk_func.specs.Limits.{most_functions, most_variables, most_values, most_blocks, most_in_signature, most_window}
 use Rattle.bk_dump.specs.declared.read.errors.Which.{Which}
 use Rattle.bk_dump.specs.declared.read.errors.Which.TheVariants as which
 use Rattle.bk_dump.specs.declared.read.errors.Fault.{Fault}
@@ -45,7 +46,7 @@ declares ids n = list_any (λ id. n == id) ids
 
 unfoldable pub value_fault : FuncTree → ValueTree → Option Fault
 value_fault f v =
-    if nat_le 16384 (length f.value_ids) then Some (Limit which.Values)
+    if nat_le most_values (length f.value_ids) then Some (Limit which.Values)
     else if not (is_number v.id && are_numbers v.args) then Some (Limit which.Numbers)
     else if declares f.value_ids v.id then Some Duplicate
     else None
@@ -57,7 +58,7 @@ with_value f v = record f { value_ids = f.value_ids ++ v.id ∷ [] }
 
 unfoldable pub block_fault : FuncTree → LabelTree → Option Fault
 block_fault f b =
-    if nat_le 4096 (length f.block_ids) then Some (Limit which.Blocks)
+    if nat_le most_blocks (length f.block_ids) then Some (Limit which.Blocks)
     else if not (is_number b.id && are_numbers b.preds) then Some (Limit which.Numbers)
     else if declares f.block_ids b.id then Some Duplicate
     else None
@@ -76,11 +77,11 @@ end_fault e = if control_is_number e.control && are_numbers e.succs then None el
 
 -- a line that declares a variable
 
-abbrev pub panic_divide : List ℕ
-panic_divide = codes "runtime.panicdivide"
+abbrev pub divide_name : List ℕ
+divide_name = codes "runtime.panicdivide"
 
-abbrev pub panic_shift : List ℕ
-panic_shift = codes "runtime.panicshift"
+abbrev pub shift_name : List ℕ
+shift_name = codes "runtime.panicshift"
 
 -- the name is one of those declared
 abbrev pub is_declared : List (List ℕ) → List ℕ → Bool
@@ -88,7 +89,7 @@ is_declared names name = list_any (λ n. bytes_eq name n) names
 
 -- the names of the callees that panic
 unfoldable pub is_reserved : List ℕ → Bool
-is_reserved name = bytes_eq name panic_divide || bytes_eq name panic_shift
+is_reserved name = bytes_eq name divide_name || bytes_eq name shift_name
 
 -- the name may not be declared any more
 unfoldable pub is_taken : List (List ℕ) → List ℕ → Bool
@@ -96,8 +97,8 @@ is_taken names name = is_reserved name || is_declared names name
 
 unfoldable pub var_fault : State → VarTree → Option Fault
 var_fault s v =
-    if nat_le 4096 (length s.vars) then Some (Limit which.Variables)
-    else if nat_lt 1048576 (s.window + v.size) then Some (Limit which.Window)
+    if nat_le most_variables (length s.vars) then Some (Limit which.Variables)
+    else if nat_lt most_window (s.window + v.size) then Some (Limit which.Window)
     else if is_taken s.names v.name then Some Duplicate
     else None
 
@@ -138,8 +139,8 @@ parameter_names h = map (λ p. p.name) h.parameters
 
 unfoldable pub header_fault : State → HeaderTree → Option Fault
 header_fault s h =
-    if nat_le 4096 (length s.funcs) then Some (Limit which.Functions)
-    else if nat_lt 64 (length h.parameters + length h.results) then Some (Limit which.Signature)
+    if nat_le most_functions (length s.funcs) then Some (Limit which.Functions)
+    else if nat_lt most_in_signature (length h.parameters + length h.results) then Some (Limit which.Signature)
     else if is_taken s.names h.name then Some Duplicate
     else None
 

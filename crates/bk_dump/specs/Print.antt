@@ -16,6 +16,7 @@ use Rattle.bk_func.specs.declared.parts.Kind.TheVariants.{Plain, If, First, Ret,
 use Rattle.bk_func.specs.declared.parts.Likely.{Likely}
 use Rattle.bk_func.specs.declared.parts.Likely.TheVariants as likely
 use Rattle.bk_func.specs.Records.{ValueRecord, BlockRecord, SigRecord, FuncRecord, VarRecord, PackageRecord}
+use Rattle.bk_func.specs.Symbols.{panic_divide, panic_shift}
 
 -- the name of a type; a list of types has none
 unfoldable pub type_name : Ty → List ℕ
@@ -39,8 +40,8 @@ type_name Tuple = []
 -- a function's or a variable's name by its number; the two highest numbers stand for the callees that panic
 unfoldable pub symbol : List (List ℕ) → ℕ → List ℕ
 symbol names n =
-    if n == 4294967294 then codes "runtime.panicdivide"
-    else if n == 4294967295 then codes "runtime.panicshift"
+    if n == panic_divide then codes "runtime.panicdivide"
+    else if n == panic_shift then codes "runtime.panicshift"
     else slice_index_or names n []
 
 -- the name of the argument at a place: a to z, then a26 and so on

@@ -9,9 +9,10 @@ use Rattle.bk_ops.specs.declared.family.Family.TheVariants as family
 use Rattle.bk_func.specs.declared.parts.Aux.{Aux}
 use Rattle.bk_func.specs.declared.parts.Aux.TheVariants as aux
 use Rattle.bk_func.specs.Records.{ValueRecord, BlockRecord, FuncRecord, VarRecord, PackageRecord}
+use Rattle.bk_func.specs.Symbols.{panic_divide, panic_shift}
 use Rattle.bk_dump.specs.Front.{or_else}
 use Rattle.bk_dump.specs.Trees.{MentionTree, ValueTree, LabelTree, BlockTree, EndTree, FuncTree}
-use Rattle.bk_dump.specs.Drafts.{declares, panic_divide, panic_shift}
+use Rattle.bk_dump.specs.Drafts.{declares, divide_name, shift_name}
 
 -- a step that may find a reference which names nothing; its error is what the text says there
 infixl 10 ◌>>=◌
@@ -51,8 +52,8 @@ argument_of parameters name = option_map aux.Arg (place_of parameters name)
 -- the number of a callee; the callees that panic have numbers of their own
 abbrev pub callee_of : List (List ℕ) → List ℕ → Option Aux
 callee_of names name =
-    if bytes_eq name panic_divide then Some (aux.Sym 4294967294)
-    else if bytes_eq name panic_shift then Some (aux.Sym 4294967295)
+    if bytes_eq name divide_name then Some (aux.Sym panic_divide)
+    else if bytes_eq name shift_name then Some (aux.Sym panic_shift)
     else symbol_of names name
 
 -- what the references of a function may name

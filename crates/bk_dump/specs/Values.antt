@@ -46,10 +46,14 @@ square_of _ = square.Nothing
 -- machine ops and the ops of words stand in no text
 unfoldable pub is_written : Family → Bool
 is_written family.ArgWord = false
+is_written family.ArgReg = false
 is_written family.ResWord = false
+is_written family.ResReg = false
 is_written family.OutWord = false
 is_written family.RetWord = false
+is_written family.RetRegs = false
 is_written family.Call = false
+is_written family.CallRegs = false
 is_written family.Trap = false
 is_written (family.Arm op) = false
 is_written (family.Rv op) = false

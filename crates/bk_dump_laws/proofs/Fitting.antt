@@ -26,7 +26,7 @@ use Rattle.bk_dump_laws.specs.Lines.{IsWordType}
 use Rattle.bk_dump.specs.Trees.{MentionTree, ValueTree, LabelTree, EndTree, VarTree, ParameterTree, HeaderTree, OpenTree, BlockTree, FuncTree, no_mention, of_type, of_name}
 use Rattle.bk_dump.specs.Values.{braces_of, is_written}
 use Rattle.bk_dump.specs.declared.read.beside.Braces.TheVariants as braces
-use Rattle.bk_dump.specs.Drafts.{State, hex_value, pairs, padded, var_fault, with_var, declare_var, closed, has_block, panic_divide, panic_shift, at_start}
+use Rattle.bk_dump.specs.Drafts.{State, hex_value, pairs, padded, var_fault, with_var, declare_var, closed, has_block, divide_name, shift_name, at_start}
 use Rattle.bk_dump.specs.Resolved.{Scope, scope_of, place_of, symbol_of, argument_of, callee_of, aux_of, or_name, if_named, looked_up, value_of, each, block_of, func_of}
 use Rattle.bk_dump.specs.Texts.{lines, is_skipped, reading}
 use Rattle.bk_dump_laws.specs.Declarations.{Line, var_line, func_line, block_line, value_line, end_line, Declaration, variable, function, lines_of_block, lines_of_blocks, lines_of_all, IsWhole, names_of_all, declared_func, declared_var, funcs_from, vars_from}
@@ -269,7 +269,7 @@ braces_fit : (s : Scope) (f : Family) (m : MentionTree) (x : Aux) → Known s.na
 unfolding braces_of aux_of
 braces_fit s family.Arg m x k (name, e) h = inr (argument_case s.parameters name x (place_of s.parameters name) refl k.few (name_is s family.Arg m name x e h))
 braces_fit s family.Addr m x k (name, e) h = inl (symbol_found s.names name x k.all k.short (name_is s family.Addr m name x e h))
-braces_fit s family.StaticLECall m x k (name, e) h = callee_case s.names name x (bytes_eq name panic_divide) (bytes_eq name panic_shift) k.all k.short (name_is s family.StaticLECall m name x e h)
+braces_fit s family.StaticLECall m x k (name, e) h = callee_case s.names name x (bytes_eq name divide_name) (bytes_eq name shift_name) k.all k.short (name_is s family.StaticLECall m name x e h)
 braces_fit s family.Store m x k (t, e, single) h = (t, type_is s family.Store m t x e h, single)
 braces_fit s f m x k e h = nothing_is s f m x e h
 

@@ -27,7 +27,8 @@ use Rattle.bk_func.specs.Records.{ValueRecord, BlockRecord, SigRecord, FuncRecor
 use Rattle.bk_func.specs.Form.{IsInForm, strict}
 use Rattle.bk_func.specs.Form.Parts.{NamesInValue, IsBetween, InRange, HasRange}
 use Rattle.bk_func.specs.Form.Shapes.{HasTypes, Gives, GivesArgument, GivesResult, GivesByType, GivesWord, GivesResults, GivesList, IsData, FitsWord}
-use Rattle.bk_func.specs.Form.Signatures.{Setting, no_sig, sig_in, sig_named, sig_of, ResultOf}
+use Rattle.bk_func.specs.Form.Signatures.{Setting, sig_in, sig_named, sig_of, ResultOf}
+use Rattle.bk_func.specs.Symbols.{no_sig}
 use Rattle.bk_form.proofs.Named.{callee_from}
 use Rattle.bk_dump_laws.specs.Lines.{IsWordType}
 use Rattle.bk_dump.specs.Values.{square_of, is_written}
@@ -132,7 +133,9 @@ alike t x y e d w = d (sym w ∙ ap (λ (z : Ty). width_of z t) e)
 word_no_list : (p : PackageRecord) (t : Target) (f : FuncRecord) (v : ValueRecord) (o : Family) → v.ty ≡ Tuple → is_written o ≡ true → GivesWord (strict p t) f v o → ⊥
 unfolding GivesWord is_written
 word_no_list p t f v op.ArgWord e w h = absurd cc
+word_no_list p t f v op.ArgReg e w h = absurd cc
 word_no_list p t f v op.ResWord e w h = absurd cc
+word_no_list p t f v op.ResReg e w h = absurd cc
 word_no_list p t f v _ e w h = no_word p t v.ty e h
 
 arg_no_list : (p : PackageRecord) (t : Target) (ts : List Ty) (x : Aux) (y : Ty) → y ≡ Tuple → GivesArgument (strict p t) ts x y → ⊥

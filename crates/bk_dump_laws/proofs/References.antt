@@ -18,7 +18,7 @@ use Rattle.bk_ops.specs.declared.family.Family.TheVariants as family
 use Rattle.bk_func.specs.declared.parts.Aux.{Aux}
 use Rattle.bk_func.specs.declared.parts.Aux.TheVariants as aux
 use Rattle.bk_dump.specs.Trees.{MentionTree, ParameterTree, no_mention, of_type, of_name}
-use Rattle.bk_dump.specs.Drafts.{is_declared, are_fresh, panic_divide, panic_shift}
+use Rattle.bk_dump.specs.Drafts.{is_declared, are_fresh, divide_name, shift_name}
 use Rattle.bk_dump.specs.Print.{symbol, argument_name}
 use Rattle.bk_dump_laws.specs.Printed.{mention_of, parameters_of}
 use Rattle.bk_dump.specs.Resolved.{Scope, place_of, symbol_of, argument_of, callee_of, aux_of, or_name, if_named, looked_up}
@@ -214,10 +214,14 @@ looks family.StaticLECall = inr (inl (λ s n. refl))
 looks family.SelectN = inr (inr (λ s n. refl))
 looks family.MakeResult = inr (inr (λ s n. refl))
 looks family.ArgWord = inr (inr (λ s n. refl))
+looks family.ArgReg = inr (inr (λ s n. refl))
 looks family.ResWord = inr (inr (λ s n. refl))
+looks family.ResReg = inr (inr (λ s n. refl))
 looks family.OutWord = inr (inr (λ s n. refl))
 looks family.RetWord = inr (inr (λ s n. refl))
+looks family.RetRegs = inr (inr (λ s n. refl))
 looks family.Call = inr (inr (λ s n. refl))
+looks family.CallRegs = inr (inr (λ s n. refl))
 looks family.Trap = inr (inr (λ s n. refl))
 looks (family.Arm op) = inr (inr (λ s n. refl))
 looks (family.Rv op) = inr (inr (λ s n. refl))
@@ -253,19 +257,19 @@ symbol_found names name x few h =
     let p = place_is names name m.0 m.1 in
     (m.0, sym m.2, symbol_is names m.0 (omega (arith, p.0)) ∙ p.1)
 
-shift_found : (names : List (List ℕ)) (name : List ℕ) (x : Aux) (b : Bool) → length names < 4294967294 → bytes_eq name panic_shift ≡ b → cond b (Some (aux.Sym 4294967295)) (symbol_of names name) ≡ Some x → IsSymbol names name x
+shift_found : (names : List (List ℕ)) (name : List ℕ) (x : Aux) (b : Bool) → length names < 4294967294 → bytes_eq name shift_name ≡ b → cond b (Some (aux.Sym 4294967295)) (symbol_of names name) ≡ Some x → IsSymbol names name x
 unfolding symbol
-shift_found names name x true few e h = (4294967295, sym (some_is (aux.Sym 4294967295) x h), sym ((bytes_eq-Decides name panic_shift).0 e))
+shift_found names name x true few e h = (4294967295, sym (some_is (aux.Sym 4294967295) x h), sym ((bytes_eq-Decides name shift_name).0 e))
 shift_found names name x false few e h = symbol_found names name x few h
 
-divide_found : (names : List (List ℕ)) (name : List ℕ) (x : Aux) (b : Bool) → length names < 4294967294 → bytes_eq name panic_divide ≡ b
-    → cond b (Some (aux.Sym 4294967294)) (cond (bytes_eq name panic_shift) (Some (aux.Sym 4294967295)) (symbol_of names name)) ≡ Some x → IsSymbol names name x
+divide_found : (names : List (List ℕ)) (name : List ℕ) (x : Aux) (b : Bool) → length names < 4294967294 → bytes_eq name divide_name ≡ b
+    → cond b (Some (aux.Sym 4294967294)) (cond (bytes_eq name shift_name) (Some (aux.Sym 4294967295)) (symbol_of names name)) ≡ Some x → IsSymbol names name x
 unfolding symbol
-divide_found names name x true few e h = (4294967294, sym (some_is (aux.Sym 4294967294) x h), sym ((bytes_eq-Decides name panic_divide).0 e))
-divide_found names name x false few e h = shift_found names name x (bytes_eq name panic_shift) few refl h
+divide_found names name x true few e h = (4294967294, sym (some_is (aux.Sym 4294967294) x h), sym ((bytes_eq-Decides name divide_name).0 e))
+divide_found names name x false few e h = shift_found names name x (bytes_eq name shift_name) few refl h
 
 callee_found : (names : List (List ℕ)) (name : List ℕ) (x : Aux) → length names < 4294967294 → callee_of names name ≡ Some x → IsSymbol names name x
-callee_found names name x few h = divide_found names name x (bytes_eq name panic_divide) few refl h
+callee_found names name x few h = divide_found names name x (bytes_eq name divide_name) few refl h
 
 -- What a value mentions.
 

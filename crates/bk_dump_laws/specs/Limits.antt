@@ -2,6 +2,7 @@
 use Rattle.std.specs.Prelude.{◌≡◌, ◌≢◌, ◌≤◌, ◌+◌, ℕ, false, List, [], ◌∷◌, length, map, All, IfSome, Ok}
 use Rattle.std.specs.List.{AllPairs}
 use Rattle.bk_func.specs.Records.{PackageRecord}
+use Rattle.bk_func.specs.Limits.{most_functions, most_variables, most_values, most_blocks, most_in_signature, most_window}
 use Rattle.bk_dump.specs.Trees.{ValueTree, HeaderTree, BlockTree}
 use Rattle.bk_dump.specs.Drafts.{is_reserved, next_window, parameter_names}
 use Rattle.bk_dump_laws.specs.Naming.{Differ}
@@ -27,10 +28,10 @@ pub record HasNumbers (b : BlockTree) : Type 0 where
 
 -- a function of at most 64 arguments and results, 16,384 values and 4,096 blocks
 pub record KeepsFunction (h : HeaderTree) (bs : List BlockTree) : Type 0 where
-  pub places : length h.parameters + length h.results ≤ 64
+  pub places : length h.parameters + length h.results ≤ most_in_signature
   pub parameters : Differ (parameter_names h)
-  pub few_values : length (value_ids bs) ≤ 16384
-  pub few_blocks : length bs ≤ 4096
+  pub few_values : length (value_ids bs) ≤ most_values
+  pub few_blocks : length bs ≤ most_blocks
   pub values : AreDistinct (value_ids bs)
   pub blocks : AreDistinct (block_ids bs)
   pub numbers : All HasNumbers bs
@@ -53,13 +54,13 @@ var_count ((function h bs) ∷ ds) = var_count ds
 -- the variables end within 1 MiB of data, the first standing at this place
 abbrev pub KeepsWindow : ℕ → List Declaration → Type 0
 KeepsWindow place [] = Unit {0}
-KeepsWindow place ((variable v) ∷ ds) = (place + v.size ≤ 1048576) × KeepsWindow (next_window place v.size) ds
+KeepsWindow place ((variable v) ∷ ds) = (place + v.size ≤ most_window) × KeepsWindow (next_window place v.size) ds
 KeepsWindow place ((function h bs) ∷ ds) = KeepsWindow place ds
 
 -- at most 4,096 functions and 4,096 variables, each with a name of its own, which is not that of a callee that panics
 pub record KeepsLimits (ds : List Declaration) : Type 0 where
-  pub few_funcs : func_count ds ≤ 4096
-  pub few_vars : var_count ds ≤ 4096
+  pub few_funcs : func_count ds ≤ most_functions
+  pub few_vars : var_count ds ≤ most_variables
   pub differ : Differ (names_of_all ds)
   pub free : All (λ n. is_reserved n ≡ false) (names_of_all ds)
   pub window : KeepsWindow 0 ds

@@ -2,6 +2,7 @@
 use Rattle.std.specs.Prelude.{◌≡◌, ◌≢◌, ◌<◌, ◌≤◌, ◌+◌, ℕ, List, [], length, map, slice_index_or, All, Contains}
 use Rattle.std.specs.List.{AllPairs, sum_by}
 use Rattle.bk_func.specs.Records.{PackageRecord}
+use Rattle.bk_func.specs.Limits.{most_functions, most_variables}
 use Rattle.bk_dump.specs.Parts.{IsName}
 
 -- the numbers of the names of functions and of variables
@@ -25,8 +26,8 @@ names_size names = sum_by (λ n. length n + 1) names
 
 -- each function and each variable has a name of its own, in the order in which they are declared; the text holds the names
 pub record HasNames (text : List ℕ) (p : PackageRecord) : Type 0 where
-  pub few_funcs : length p.funcs ≤ 4096
-  pub few_vars : length p.vars ≤ 4096
+  pub few_funcs : length p.funcs ≤ most_functions
+  pub few_vars : length p.vars ≤ most_variables
   pub counted : length p.funcs + length p.vars ≡ length p.names
   pub funcs_rise : AllPairs (λ a b. a < b) (func_places p)
   pub vars_rise : AllPairs (λ a b. a < b) (var_places p)

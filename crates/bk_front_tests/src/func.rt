@@ -1,6 +1,6 @@
 use bk_func::{
     Aux, Block, Func, Kind, Likely, Sig, Value, add_value, block_place, copy_func, first_construct,
-    greatest_value, replace, uses,
+    greatest_value, register_words, replace, uses,
 };
 use bk_ops::{Family, Op, Target, Ty, op_of_name};
 use smallvec::SmallVec;
@@ -109,5 +109,12 @@ fn values_are_added(rt: HostRuntime) -> Result<(), Fail> {
     );
     assert_eq!(rt; id, Ok(4));
     assert_eq!(rt; (greatest_value(&func), uses(&func, 3)), (4, 2));
+    Ok(())
+}
+
+#[test]
+fn words_in_registers(rt: HostRuntime) -> Result<(), Fail> {
+    assert_eq!(rt; register_words(Target::Arm), 0);
+    assert_eq!(rt; register_words(Target::Riscv64), 8);
     Ok(())
 }

@@ -1,5 +1,5 @@
 -- What the variables of a rule are bound to.
-use Rattle.std.specs.Prelude.{ℕ, ℤ, pos, List, Option, Some, None, slice_get}
+use Rattle.std.specs.Prelude.{ℕ, ℤ, pos, List, Option, Some, slice_get}
 use Rattle.bk_ops.specs.declared.types.Ty.{Ty}
 use Rattle.bk_ops.specs.declared.types.Ty.TheVariants.{Void}
 use Rattle.bk_func.specs.Records.{FuncRecord}

@@ -1,5 +1,5 @@
 -- The values of expressions: numbers of 64 bits in two's complement.
-use Rattle.std.specs.Prelude.{◌≡◌, ℕ, zero, suc, ◌+◌, ◌-◌, ◌*◌, ◌%◌, ◌^◌, min, List, [], ◌∷◌, Option, Some, None, ℤ, pos, negsuc, Bool, true, false, ◌||◌, nat_lt, nat_le, int_lt, int_le, ◌==◌, not, if◌then◌else◌, bit_and, bit_or, bit_xor}
+use Rattle.std.specs.Prelude.{ℕ, zero, suc, ◌+◌, ◌-◌, ◌*◌, ◌^◌, min, List, [], ◌∷◌, Option, Some, None, ℤ, pos, negsuc, Bool, true, false, ◌||◌, nat_lt, nat_le, int_lt, int_le, ◌==◌, not, if◌then◌else◌, bit_and, bit_or, bit_xor}
 use Rattle.std.specs.Int.{int_div_euclid}
 use Rattle.bk_num.specs.Word.{signed, residue, rotated, fits_signed}
 use Rattle.bk_ops.specs.declared.types.Target.{Target}

@@ -3,3 +3,4 @@ pub mod Expressions
 pub mod Match
 pub mod Sound
 pub mod Trees
+pub mod WordSound

@@ -1,8 +1,7 @@
 -- When a rule is sound: wherever its left tree stands and its conditions hold, its right tree has the same value.
 -- This speaks of ops that have values by themselves, over numbers of the widths of their rows. A tree with an op that takes or
 -- gives memory, or whose value is given, has no value here.
-use Rattle.std.specs.Prelude.{ℕ, ◌≡◌, ◌<◌, ◌^◌, List, [], ◌∷◌, Option, Some, None, ℤ, pos, Bool, true, false, ◌&&◌, ◌==◌, IsTrue, IsSome, ◌⊎◌}
-use Rattle.std.specs.List.{All}
+use Rattle.std.specs.Prelude.{ℕ, ◌≡◌, ◌<◌, ◌^◌, List, [], ◌∷◌, Option, Some, None, ℤ, pos, Bool, true, false, ◌==◌, IsTrue, IsSome, ◌⊎◌}
 use Rattle.bk_num.specs.Word.{signed, residue}
 use Rattle.bk_ops.specs.declared.types.Target.{Target}
 use Rattle.bk_ops.specs.declared.family.Family.{Family}

@@ -1,8 +1,7 @@
 -- How the trees of rules are written in definitions. Variables are numbers.
-use Rattle.std.specs.Prelude.{ℕ, List, [], Option, Some, None, ℤ}
+use Rattle.std.specs.Prelude.{ℕ, List, [], Some, None, ℤ}
 use Rattle.bk_ops.specs.declared.family.Family.{Family}
 use Rattle.bk_ops.specs.declared.table.Op.{Op}
-use Rattle.bk_rule.specs.declared.trees.IntPart.{IntPart}
 use Rattle.bk_rule.specs.declared.trees.IntPart.TheVariants as part
 use Rattle.bk_rule.specs.declared.trees.Pattern.{Pattern, roll-Pattern}
 use Rattle.bk_rule.specs.declared.trees.Pattern.TheOpen.{Pattern-F}

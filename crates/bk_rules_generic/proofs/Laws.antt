@@ -1,12 +1,12 @@
 -- The low bits of what expressions give.
-use Rattle.std.proofs.Common.{◌≡◌, ℕ, suc, ◌+◌, ◌-◌, ◌*◌, ◌/◌, ◌%◌, ◌^◌, ◌<◌, ◌≤◌, refl, ap, sym, ◌∙◌, arith, ℤ, pos, negsuc, ◌-ℤ◌, neg_ℤ, bit_and, bit_or, bit_xor}
-use Rattle.std.proofs.lemmas.Nat.{mul-mod, and_mod, or_mod, xor_mod, mod_below, pow_pos}
-use Rattle.std.proofs.Math.Nat.{mod-add-mod, add-mod-mod, mod-eq_of_lt}
-use Rattle.bk_num.specs.Word.{signed, residue}
+use Rattle.std.proofs.Common.{◌≡◌, ℕ, ◌+◌, ◌-◌, ◌*◌, ◌%◌, ◌^◌, ◌≤◌, refl, ap, sym, ◌∙◌, ℤ, negsuc, ◌-ℤ◌, neg_ℤ, bit_and, bit_or, bit_xor}
+use Rattle.std.proofs.lemmas.Nat.{mul-mod, and_mod, or_mod, xor_mod}
+use Rattle.std.proofs.Math.Nat.{mod-add-mod, add-mod-mod}
+use Rattle.bk_num.specs.Word.{residue}
 use Rattle.bk_num.proofs.Powers.{mod_mod}
 use Rattle.bk_num.proofs.Signs.{residue_below}
 use Rattle.bk_ops.specs.Arithmetic.{difference, complement}
-use Rattle.bk_ops.proofs.Cut.{same_mod, sub_64}
+use Rattle.bk_ops.proofs.Cut.{sub_64}
 use Rattle.bk_ops.proofs.LowBits.{residue-signed, residue-low, residue-neg, residue-complement}
 use Rattle.bk_rule.specs.Expressions.{word, wrap}
 

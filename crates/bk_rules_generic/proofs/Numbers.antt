@@ -1,5 +1,5 @@
 -- Laws of numbers of w bits, as the families of the list need them. Premises say what a constant's number is, and what an op gives.
-use Rattle.std.proofs.Common.{◌≡◌, ℕ, zero, suc, ◌+◌, ◌-◌, ◌*◌, ◌/◌, ◌%◌, ◌^◌, ◌<◌, ◌≤◌, refl, ap, sym, ◌∙◌, arith, inl, inr, bit_and, bit_or, bit_xor, Bool, true, false, if◌then◌else◌, nat_lt, ◌==◌, ℤ, pos, negsuc, neg_ℤ, int_div}
+use Rattle.std.proofs.Common.{◌≡◌, ℕ, suc, ◌+◌, ◌-◌, ◌*◌, ◌/◌, ◌%◌, ◌^◌, ◌<◌, ◌≤◌, refl, ap, sym, ◌∙◌, arith, inl, inr, bit_and, bit_or, bit_xor, Bool, true, false, if◌then◌else◌, nat_lt, ◌==◌, ℤ, pos, negsuc, neg_ℤ, int_div}
 use Rattle.std.specs.Int.Bits.{and_zero_l, and_self, or_zero_l, or_self, xor_zero_l, xor_self, xor_add_and}
 use Rattle.std.proofs.lemmas.Bool.{cases_lt}
 use Rattle.std.proofs.lemmas.Bool.Decides.{nat_tests}

@@ -1,7 +1,7 @@
 -- Families of comparisons and truth values are sound.
-use Rattle.std.proofs.Common.{◌≡◌, ℕ, suc, ◌+◌, ◌-◌, ◌*◌, ◌/◌, ◌%◌, ◌^◌, ◌<◌, ◌≤◌, refl, ap, sym, ◌∙◌, arith, ℤ, pos, negsuc, Bool, true, false, not, nat_lt, nat_le, ◌==◌, int_lt, int_le}
+use Rattle.std.proofs.Common.{ℕ, ◌-◌, ◌≤◌, ap, sym, ◌∙◌, arith, pos, not, nat_lt, nat_le, ◌==◌, int_lt, int_le}
 use Rattle.std.proofs.Math.Nat.{mod-eq_of_lt}
-use Rattle.bk_num.specs.Word.{signed, residue}
+use Rattle.bk_num.specs.Word.{residue}
 use Rattle.bk_ops.specs.declared.types.Target.{Target}
 use Rattle.bk_ops.specs.declared.family.Family.TheVariants.{Eq, Neq, Less, LessU, Leq, LeqU, AndB, OrB, Not}
 use Rattle.bk_ops.specs.Arithmetic.{as_bit, less}

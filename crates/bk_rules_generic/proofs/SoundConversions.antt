@@ -1,10 +1,9 @@
 -- Families of shifts, extensions, masks, pointers and choices are sound.
-use Rattle.std.proofs.Common.{◌≡◌, ℕ, suc, ◌+◌, ◌-◌, ◌*◌, ◌/◌, ◌%◌, ◌^◌, ◌<◌, ◌≤◌, refl, ap, sym, ◌∙◌, arith, inl, inr, ℤ, pos, negsuc, true}
+use Rattle.std.proofs.Common.{ℕ, ◌%◌, ◌^◌, ◌≤◌, ap, sym, ◌∙◌, inl, inr}
 use Rattle.std.proofs.Math.Nat.{mod-eq_of_lt}
 use Rattle.bk_num.specs.Word.{signed, residue}
 use Rattle.bk_num.proofs.Signs.{residue_signed}
 use Rattle.bk_ops.specs.declared.types.Target.{Target}
-use Rattle.bk_ops.specs.declared.types.Target.TheVariants as target
 use Rattle.bk_ops.specs.declared.family.Family.TheVariants.{Lsh, Rsh, RshU, SignExt, ZeroExt}
 use Rattle.bk_ops.specs.Types.{word_width}
 use Rattle.bk_ops.specs.Table.{row, entry}

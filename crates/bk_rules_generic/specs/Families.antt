@@ -1,5 +1,5 @@
 -- The families of the generic list, each as one rule over the widths in its ops' names: w, and v where there is a second.
-use Rattle.std.specs.Prelude.{ℕ, List, [], ◌∷◌, ℤ, pos, negsuc, ◌==◌, if◌then◌else◌}
+use Rattle.std.specs.Prelude.{ℕ, [], ◌∷◌, ℤ, pos, negsuc, ◌==◌, if◌then◌else◌}
 use Rattle.bk_ops.specs.declared.family.Family.{Family}
 use Rattle.bk_ops.specs.declared.family.Family.TheVariants.{Const, ConstBool, Add, Sub, Mul, And, Neg, Div, Divu, Modu, Lsh, RshU, Not, SignExt, ZeroExt, Trunc, Signmask, Zeromask, CondSelect, AddPtr, OffPtr}
 use Rattle.bk_rule.specs.declared.trees.Pattern.{Pattern}

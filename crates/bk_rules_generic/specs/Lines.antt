@@ -1,5 +1,5 @@
 -- The generic list: its lines in order, each line one rule for each of its widths.
-use Rattle.std.specs.Prelude.{ℕ, List, [], ◌∷◌, ◌++◌, map, ℤ, pos, negsuc}
+use Rattle.std.specs.Prelude.{ℕ, List, [], ◌∷◌, ◌++◌, map, pos, negsuc}
 use Rattle.std.specs.List.{flat_map}
 use Rattle.bk_ops.specs.declared.family.Family.TheVariants.{Add, Sub, Mul, And, Or, Xor, Neg, Com, Lsh, Rsh, RshU, Eq, Neq, Less, LessU, Leq, LeqU, AndB, OrB, Not, SignExt, ZeroExt}
 use Rattle.bk_rule.specs.declared.trees.Fun.TheVariants as fun

@@ -7,7 +7,7 @@ use Rattle.bk_ops.specs.declared.family.RvOp.TheVariants as rv
 use Rattle.bk_ops.specs.Formulas.{formula, rv_formula}
 use Rattle.bk_ops.specs.Table.{row, rv_row, entry}
 use Rattle.bk_rule.proofs.Opened.{opened}
-use Rattle.bk_rules_rv.specs.WordSound.{SoundWordRule}
+use Rattle.bk_rule.specs.WordSound.{SoundWordRule}
 use Rattle.std.proofs.lemmas.Bool.{eqb-true, false≢true}
 use Rattle.std.proofs.Math.Nat.{mod-eq_of_lt, mod-mod}
 use Rattle.bk_num.specs.Bytes.{is_within}
@@ -115,7 +115,7 @@ load_sound w h e s k kk x d =
     let z : size_of_ty (e.ty 0) Riscv64 ≡ w = same_size (size_of_ty (e.ty 0) Riscv64) w (at_most_8 (e.ty 0)) h d in (
       λ n q. load_value (e.ty 0) (s.windows (e.value 2)) w ((e.value 1 + residue 64 k) % 2 ^ 64) ((e.value 1 + residue 64 (pos 0)) % 2 ^ 64) n z (at_address (e.value 1) 0 k kk) q,
       same_fault (s.windows (e.value 2)) (size_of_ty (e.ty 0) Riscv64) w ((e.value 1 + residue 64 k) % 2 ^ 64) ((e.value 1 + residue 64 (pos 0)) % 2 ^ 64) z (at_address (e.value 1) 0 k kk),
-      λ calls p f a l. refl,
+      λ calls p places f a l. refl,
     )
 
 -- ---- stores
@@ -160,7 +160,7 @@ unfolding SoundWordRule opened formula rv_formula row rv_row entry
 store_bool_sound e s ty k kk d = (
   refl,
   refl,
-  λ calls p f a l. same_store a (record { window = s.windows (e.value 3); left = l })
+  λ calls p places f a l. same_store a (record { window = s.windows (e.value 3); left = l })
       (size_of_ty (e.ty 0) Riscv64) 1 ((e.value 1 + residue 64 k) % 2 ^ 64) ((e.value 1 + residue 64 (pos 0)) % 2 ^ 64)
       (if is_truth (e.ty 0) then e.value 2 % 2 else e.value 2) (e.value 2 % 2)
       (bool_size (e.ty 0) d) (at_address (e.value 1) 0 k kk) (bool_stored (e.ty 0) (e.value 2) d),
@@ -212,7 +212,7 @@ unfolding SoundWordRule opened formula rv_formula row rv_row entry
 store_sound w h e s ty k kk d = (
   refl,
   refl,
-  λ calls p f a l. same_store a (record { window = s.windows (e.value 3); left = l })
+  λ calls p places f a l. same_store a (record { window = s.windows (e.value 3); left = l })
       (size_of_ty (e.ty 0) Riscv64) w ((e.value 1 + residue 64 k) % 2 ^ 64) ((e.value 1 + residue 64 (pos 0)) % 2 ^ 64)
       (if is_truth (e.ty 0) then e.value 2 % 2 else e.value 2) (e.value 2)
       (plain_size (e.ty 0) w h d) (at_address (e.value 1) 0 k kk) (plain_stored (e.ty 0) w (e.value 2) d),
@@ -221,19 +221,19 @@ store_sound w h e s ty k kk d = (
 -- ---- what is the same on both sides
 pub zero_sound : SoundWordRule Riscv64 zero
 unfolding SoundWordRule opened formula rv_formula row rv_row entry
-zero_sound e s ty kk x d = (refl, refl, λ calls p f a l. refl)
+zero_sound e s ty kk x d = (refl, refl, λ calls p places f a l. refl)
 
 pub move_sound : SoundWordRule Riscv64 move_bytes
 unfolding SoundWordRule opened formula rv_formula row rv_row entry
-move_sound e s ty kk x d = (refl, refl, λ calls p f a l. refl)
+move_sound e s ty kk x d = (refl, refl, λ calls p places f a l. refl)
 
 pub nil_check_sound : SoundWordRule Riscv64 (two generic.NilCheck rv.Nil 0 0)
 unfolding SoundWordRule opened formula rv_formula row rv_row entry
-nil_check_sound e s ty k kk x d = (λ n q. q, refl, λ calls p f a l. refl)
+nil_check_sound e s ty k kk x d = (λ n q. q, refl, λ calls p places f a l. refl)
 
 pub panic_sound : SoundWordRule Riscv64 panic
 unfolding SoundWordRule opened formula rv_formula row rv_row entry
-panic_sound e s n m ty k kk x d = (refl, refl, λ calls p f a l. refl)
+panic_sound e s n m ty k kk x d = (refl, refl, λ calls p places f a l. refl)
 
 -- ---- an offset beside the access
 near_address : (p b c y : ℕ) → y % 2 ^ 64 ≡ (p % 2 ^ 64 + c) % 2 ^ 64 % 2 ^ 64 → (y + b) % 2 ^ 64 ≡ (p + (b + c) % 2 ^ 64) % 2 ^ 64
@@ -250,7 +250,7 @@ load_near_sound w e s t1 k1 x1 y g ty kk x d =
     let z : (y + residue 64 (e.int 0)) % 2 ^ 64 ≡ (e.value 2 + residue 64 (wrap (word (e.int 0) + word (e.int 1)))) % 2 ^ 64 = sum_address (e.value 2) y (e.int 0) (e.int 1) g in (
       λ n q. q ∙ ap (λ i. loaded_word w (bytes_at (s.windows (e.value 3)) w i) % 2 ^ 64) (sym z),
       same_fault (s.windows (e.value 3)) w w _ _ refl z,
-      λ calls p f a l. refl,
+      λ calls p places f a l. refl,
     )
 
 -- the bytes that a machine op stores, whatever stands beside it
@@ -271,7 +271,7 @@ unfolding SoundWordRule opened formula rv_formula row rv_row entry
 store_near_sound w e s t1 k1 x1 y g ty kk x d = (
   refl,
   refl,
-  λ calls p f a l. same_store a (record { window = s.windows (e.value 4); left = l })
+  λ calls p places f a l. same_store a (record { window = s.windows (e.value 4); left = l })
       (store_size Riscv64 x (op (generic.Rv rv.Store) w 0) (generic.Rv rv.Store)) w
       ((y + residue 64 (e.int 0)) % 2 ^ 64) ((e.value 2 + residue 64 (wrap (word (e.int 0) + word (e.int 1)))) % 2 ^ 64) (e.value 3) (e.value 3)
       (size_stored x w) (sum_address (e.value 2) y (e.int 0) (e.int 1) g) refl,
@@ -282,7 +282,7 @@ unfolding SoundWordRule opened formula rv_formula row rv_row entry
 store_bool_near_sound e s t1 k1 x1 y g ty kk x d = (
   refl,
   refl,
-  λ calls p f a l. same_store a (record { window = s.windows (e.value 4); left = l })
+  λ calls p places f a l. same_store a (record { window = s.windows (e.value 4); left = l })
       (store_size Riscv64 x (op (generic.Rv rv.StoreB) 0 0) (generic.Rv rv.StoreB)) 1
       ((y + residue 64 (e.int 0)) % 2 ^ 64) ((e.value 2 + residue 64 (wrap (word (e.int 0) + word (e.int 1)))) % 2 ^ 64) (e.value 3 % 2) (e.value 3 % 2)
       (one_stored x) (sum_address (e.value 2) y (e.int 0) (e.int 1) g) refl,

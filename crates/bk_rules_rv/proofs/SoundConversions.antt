@@ -6,7 +6,7 @@ use Rattle.bk_ops.specs.declared.family.RvOp.TheVariants as rv
 use Rattle.bk_ops.specs.Formulas.{formula, rv_formula}
 use Rattle.bk_ops.specs.Table.{row, rv_row, entry}
 use Rattle.bk_rule.proofs.Opened.{opened}
-use Rattle.bk_rules_rv.specs.WordSound.{SoundWordRule}
+use Rattle.bk_rule.specs.WordSound.{SoundWordRule}
 use Rattle.bk_ops.specs.declared.types.Ty.{Ty}
 use Rattle.bk_ops.specs.declared.types.Ty.TheVariants as ty
 use Rattle.bk_ops.specs.Types.{width_of}
@@ -16,11 +16,11 @@ use Rattle.bk_rules_rv.proofs.Products.{extend_signs, extend_zeros, cut_twice, m
 
 pub extend_signed_sound : (w v : ℕ) → 1 ≤ w → w ≤ 64 → v ≤ 64 → SoundWordRule Riscv64 (extend generic.SignExt rv.Srai w v)
 unfolding SoundWordRule opened formula rv_formula row rv_row entry
-extend_signed_sound w v l h g e s ty k kk x d z p = (λ n q. extend_signs w v (e.value 0) z n l h g p q, refl, λ calls p f a l. refl)
+extend_signed_sound w v l h g e s ty k kk x d z p = (λ n q. extend_signs w v (e.value 0) z n l h g p q, refl, λ calls p places f a l. refl)
 
 pub extend_sound : (w v : ℕ) → w ≤ 64 → v ≤ 64 → SoundWordRule Riscv64 (extend generic.ZeroExt rv.Srli w v)
 unfolding SoundWordRule opened formula rv_formula row rv_row entry
-extend_sound w v h g e s ty k kk x d z p = (λ n q. extend_zeros w v (e.value 0) z n h g p q, refl, λ calls p f a l. refl)
+extend_sound w v h g e s ty k kk x d z p = (λ n q. extend_zeros w v (e.value 0) z n h g p q, refl, λ calls p places f a l. refl)
 
 pub truncate_sound : (w v : ℕ) → v ≤ w → SoundWordRule Riscv64 (truncate w v)
 unfolding SoundWordRule opened formula rv_formula row rv_row entry
@@ -28,19 +28,19 @@ truncate_sound w v h e s ty k kk x d = (cut_twice w v (e.value 0) h, refl, refl)
 
 pub sign_mask_sound : SoundWordRule Riscv64 (sign_mask)
 unfolding SoundWordRule opened formula rv_formula row rv_row entry
-sign_mask_sound e s ty k kk x d a p = (λ n q. mask_of_sign (e.value 0) a n p q, refl, λ calls p f a l. refl)
+sign_mask_sound e s ty k kk x d a p = (λ n q. mask_of_sign (e.value 0) a n p q, refl, λ calls p places f a l. refl)
 
 pub zero_mask_sound : SoundWordRule Riscv64 (zero_mask)
 unfolding SoundWordRule opened formula rv_formula row rv_row entry
-zero_mask_sound e s ty k kk x d u p t q = (λ n r. mask_of_zero (e.value 0) u t n p q r, refl, λ calls p f a l. refl)
+zero_mask_sound e s ty k kk x d u p t q = (λ n r. mask_of_zero (e.value 0) u t n p q r, refl, λ calls p places f a l. refl)
 
 pub rotate_sound : SoundWordRule Riscv64 (two generic.RotateLeft rv.Rotl 64 0)
 unfolding SoundWordRule opened formula rv_formula row rv_row entry
-rotate_sound e s ty k kk x d = (λ n q. q, refl, λ calls p f a l. refl)
+rotate_sound e s ty k kk x d = (λ n q. q, refl, λ calls p places f a l. refl)
 
 pub rotate_half_sound : SoundWordRule Riscv64 (rotate_half)
 unfolding SoundWordRule opened formula rv_formula row rv_row entry
-rotate_half_sound e s ty k kk x d u fu a fa z fz m fm c fc b fb = (λ n q. rotate_law (e.value 0) (e.value 1) u a z m c b n fu fa fz fm fc fb q, refl, λ calls p f a l. refl)
+rotate_half_sound e s ty k kk x d u fu a fa z fz m fm c fc b fb = (λ n q. rotate_law (e.value 0) (e.value 1) u a z m c b n fu fa fz fm fc fb q, refl, λ calls p places f a l. refl)
 
 at_most_a_word : (t : Ty) → width_of t Riscv64 ≤ 64
 at_most_a_word ty.Bool = omega arith
@@ -62,4 +62,4 @@ at_most_a_word ty.Tuple = omega arith
 
 pub select_sound : SoundWordRule Riscv64 (three generic.CondSelect rv.Sel)
 unfolding SoundWordRule opened formula rv_formula row rv_row entry
-select_sound e s t k kk x d = (λ n q. low (width_of t Riscv64) n _ (at_most_a_word t) q, refl, λ calls p f a l. refl)
+select_sound e s t k kk x d = (λ n q. low (width_of t Riscv64) n _ (at_most_a_word t) q, refl, λ calls p places f a l. refl)

@@ -10,7 +10,7 @@ use Rattle.bk_func.specs.declared.parts.Aux.TheVariants as beside
 use Rattle.bk_rule.proofs.Opened.{opened}
 use Rattle.bk_rule.specs.Expressions.{Env}
 use Rattle.bk_rules_rv.specs.Families.{two, one}
-use Rattle.bk_rules_rv.specs.WordSound.{SoundWordRule, Setting}
+use Rattle.bk_rule.specs.WordSound.{SoundWordRule, Setting}
 
 garbage : Env
 garbage = record { value = λ i. if i == 0 then 4294967296 else 1; int = λ i. pos 0; ty = λ i. ty.Uint64; symbol = λ i. 0; place = λ i. 0; uses = λ i. 0 }

@@ -10,7 +10,7 @@ use Rattle.bk_rules_rv.specs.declared.lines.Shape.{Shape}
 use Rattle.bk_rules_rv.specs.declared.lines.Shape.TheVariants as shape
 use Rattle.bk_rules_rv.specs.declared.lines.Widths.TheVariants.{Alone, Word, Byte, Each, Narrow, NarrowByEach, EachByNarrow, EachByWord, WordByNarrow, WordByWord, Rising, Falling, Sizes}
 use Rattle.bk_rules_rv.specs.Lines.{family, pairs, rules_of, line, arithmetic, shifts, comparisons, conversions, accesses, immediates, rv_list}
-use Rattle.bk_rules_rv.specs.WordSound.{SoundWordRule}
+use Rattle.bk_rule.specs.WordSound.{SoundWordRule}
 use Rattle.bk_rules_rv.proofs.SoundArithmetic.{constant_sound, truth_sound, nil_sound, address_sound, add_sound, sub_sound, mul_sound, and_sound, or_sound, xor_sound, neg_sound, com_sound, add_address_sound, sub_address_sound, high_signed_sound, high_unsigned_sound, div_sound, div_unsigned_sound, rem_sound, rem_unsigned_sound, offset_sound, narrow_div, narrow_mod, narrow_div_unsigned, narrow_mod_unsigned, half_signed_sound, half_unsigned_sound}
 use Rattle.bk_rules_rv.proofs.SoundShifts.{narrow_right_signed, narrow_right, left_by_narrow, left_by_word, signed_by_narrow, signed_by_word, right_by_narrow, right_by_word}
 use Rattle.bk_rules_rv.proofs.SoundComparisons.{equal_sound, narrow_equal, unequal_sound, narrow_unequal, equal_address, unequal_address, less_sound, less_unsigned_sound, in_bounds_sound, at_most_sound, at_most_unsigned_sound, in_slice_bounds_sound, narrow_less, narrow_at_most, narrow_less_unsigned, narrow_at_most_unsigned, not_nil_sound, both_sound, either_sound, unlike_sound, alike_sound, not_sound, truth_as_byte_sound}

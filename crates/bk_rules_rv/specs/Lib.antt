@@ -1,4 +1,3 @@
 pub mod Families
 pub mod Lines
 pub mod Nodes
-pub mod WordSound

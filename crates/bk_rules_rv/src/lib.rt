@@ -5,7 +5,7 @@ ghost use Rattle.std.specs.Prelude.{◌≡◌, IfOk};
 ghost use Rattle.std.specs.List.{All};
 ghost use Rattle.bk_ops.specs.declared.types.Target.TheVariants.{Riscv64};
 ghost use Rattle.bk_rules_rv.specs.Lines.{rv_list};
-ghost use Rattle.bk_rules_rv.specs.WordSound.{SoundWordRule};
+ghost use Rattle.bk_rule.specs.WordSound.{SoundWordRule};
 
 mod accesses;
 mod conversions;

@@ -3,15 +3,9 @@ ghost use Rattle.std.specs.Prelude.{◌≡◌, ◌++◌, string_bytes, OnOk};
 ghost use Rattle.std.specs.Fmt.{decimal};
 ghost use Rattle.bk_dump.specs.Print.{type_name, symbol, argument_name, separator, numbers};
 
-use bk_func::Package;
+use bk_func::{PANIC_DIVIDE, PANIC_SHIFT, Package};
 use bk_ops::Ty;
 use std::alloc::AllocError;
-
-/// What the number of a callee's name is where the call stands for a division by zero.
-const PANIC_DIVIDE: u32 = 4_294_967_294;
-
-/// What it is where the call stands for a shift by a count below zero.
-const PANIC_SHIFT: u32 = 4_294_967_295;
 
 /// The name of a type; a list of types has none.
 #[tactic(auto, unfolding(crate::specs::Print::type_name))]

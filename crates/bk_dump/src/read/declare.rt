@@ -1,5 +1,6 @@
 //! Declarations of variables and functions.
 ghost use Rattle.std.specs.Prelude.{◌≡◌, ◌<◌, ◌+◌, [], nat_lt, IfOk, IfSome, map, is_some};
+ghost use Rattle.bk_func.specs.Limits.{most_window};
 ghost use Rattle.bk_dump.specs.Drafts.{is_reserved, is_taken, var_fault, hex_value, pairs, padded, with_var, declare_var, are_fresh, parameter_names, header_fault, opened, declare_func, declare};
 ghost use Rattle.bk_dump.specs.Views.{state, Steps};
 
@@ -9,23 +10,15 @@ use crate::read::header::{FuncLine, Parameter, func_line};
 use crate::read::sets::{add_name, is_declared};
 use crate::read::state::Reader;
 use crate::read::variable::{VarLine, var_line};
-use bk_func::{Sig, Var};
+use bk_func::{MOST_FUNCTIONS, MOST_IN_SIGNATURE, MOST_VARIABLES, MOST_WINDOW, Sig, Var};
 use bk_ops::Ty;
 use indexmap::IndexSet;
 use std::alloc::{AllocError, Global};
 
-const MAX_FUNCTIONS: usize = 4_096;
-
-const MAX_VARIABLES: usize = 4_096;
-
-const MAX_SIGNATURE: usize = 64;
-
-const MAX_WINDOW: u128 = 1_048_576;
-
 /// The callee that traps for a division by zero.
-pub(crate) const PANIC_DIVIDE: &str = "runtime.panicdivide";
+pub(crate) const DIVIDE_NAME: &str = "runtime.panicdivide";
 /// The callee that traps for a shift by a negative count.
-pub(crate) const PANIC_SHIFT: &str = "runtime.panicshift";
+pub(crate) const SHIFT_NAME: &str = "runtime.panicshift";
 
 /// The value of a hexadecimal digit, 0 at every other byte.
 fn hex_value(digit: u8) -> u8
@@ -63,7 +56,7 @@ fn bytes_of(alloc: Global, hex: &[u8], size: usize) -> Result<Vec<u8>, AllocErro
 fn is_reserved(name: &str) -> bool
     ensures { result ≡ is_reserved name.now }
 {
-    name == PANIC_DIVIDE || name == PANIC_SHIFT
+    name == DIVIDE_NAME || name == SHIFT_NAME
 }
 
 /// Whether a name may not be declared any more.
@@ -76,9 +69,10 @@ fn is_taken(names: &IndexSet<&str>, name: &str) -> bool
 
 /// Whether a variable of this size goes past the end of the data window.
 fn is_past(window: u64, size: u128) -> bool
-    ensures { result ≡ nat_lt 1048576 (window + size) }
+    ensures { result ≡ nat_lt most_window (window + size) }
 {
-    size > MAX_WINDOW || u128::from(window) + size > MAX_WINDOW
+    let most = u128::from(MOST_WINDOW);
+    size > most || u128::from(window) + size > most
 }
 
 /// The number of a name behind so many others. No memory holds the text of 2^32 names.
@@ -93,7 +87,7 @@ pub(crate) fn number_of(count: usize) -> Result<u32, AllocError>
 fn var_fault(reader: &Reader, line: &VarLine) -> Option<Fault>
     ensures { result ≡ var_fault (state reader.now) line.now }
 {
-    if reader.vars.len() >= MAX_VARIABLES {
+    if reader.vars.len() >= MOST_VARIABLES {
         Some(Fault::Limit(Which::Variables))
     } else if is_past(reader.window, line.size) {
         Some(Fault::Limit(Which::Window))
@@ -159,9 +153,9 @@ fn header_fault(reader: &Reader, line: &FuncLine) -> Option<Fault>
     ensures { result ≡ header_fault (state reader.now) line.now }
 {
     let count = line.parameters.len();
-    if reader.funcs.len() >= MAX_FUNCTIONS {
+    if reader.funcs.len() >= MOST_FUNCTIONS {
         Some(Fault::Limit(Which::Functions))
-    } else if count > MAX_SIGNATURE || line.results.len() > MAX_SIGNATURE - count {
+    } else if count > MOST_IN_SIGNATURE || line.results.len() > MOST_IN_SIGNATURE - count {
         Some(Fault::Limit(Which::Signature))
     } else if is_taken(&reader.names, line.name) {
         Some(Fault::Duplicate)

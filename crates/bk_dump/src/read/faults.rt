@@ -8,10 +8,7 @@ use crate::read::draft::FuncDraft;
 use crate::read::end::EndLine;
 use crate::read::errors::{Fault, Which};
 use crate::read::value::ValueLine;
-
-const MAX_VALUES: usize = 16_384;
-
-const MAX_BLOCKS: usize = 4_096;
+use bk_func::{MOST_BLOCKS, MOST_VALUES};
 
 /// Whether values and blocks may have this number.
 fn is_number(number: u32) -> bool
@@ -41,7 +38,7 @@ fn control_is_number(control: Option<u32>) -> bool
 pub fn value_fault(func: &FuncDraft, line: &ValueLine) -> Option<Fault>
     ensures { result ≡ value_fault func.now line.now }
 {
-    if func.value_ids.len() >= MAX_VALUES {
+    if func.value_ids.len() >= MOST_VALUES {
         Some(Fault::Limit(Which::Values))
     } else if !is_number(line.id) || !are_numbers(line.args.as_slice()) {
         Some(Fault::Limit(Which::Numbers))
@@ -57,7 +54,7 @@ pub fn value_fault(func: &FuncDraft, line: &ValueLine) -> Option<Fault>
 pub fn block_fault(func: &FuncDraft, line: &BlockLine) -> Option<Fault>
     ensures { result ≡ block_fault func.now line.now }
 {
-    if func.block_ids.len() >= MAX_BLOCKS {
+    if func.block_ids.len() >= MOST_BLOCKS {
         Some(Fault::Limit(Which::Blocks))
     } else if !is_number(line.id) || !are_numbers(&line.preds) {
         Some(Fault::Limit(Which::Numbers))

@@ -7,22 +7,17 @@ ghost use Rattle.bk_dump.specs.Resolved.{missing, missing_control, missing_at_en
 ghost use Rattle.bk_dump.specs.Views.{Finds, Passes};
 
 use crate::read::block::BlockLine;
-use crate::read::declare::{PANIC_DIVIDE, PANIC_SHIFT, number_of};
+use crate::read::declare::{DIVIDE_NAME, SHIFT_NAME, number_of};
 use crate::read::draft::{BlockDraft, FuncDraft};
 use crate::read::end::EndLine;
 use crate::read::errors::ReferenceError;
 use crate::read::mention::Mention;
 use crate::read::scope::Scope;
 use crate::read::value::ValueLine;
-use bk_func::{Aux, Block, Func, Value};
+use bk_func::{Aux, Block, Func, PANIC_DIVIDE, PANIC_SHIFT, Value};
 use bk_ops::Family;
 use indexmap::IndexSet;
 use std::alloc::{AllocError, Global};
-
-/// In the aux of a call, the number of `runtime.panicdivide`.
-const DIVIDE_NUMBER: u32 = 4_294_967_294;
-/// In the aux of a call, the number of `runtime.panicshift`.
-const SHIFT_NUMBER: u32 = 4_294_967_295;
 
 /// A number behind its letter.
 fn spelled(alloc: Global, letter: &str, number: u32) -> Result<String, AllocError>
@@ -80,10 +75,10 @@ fn symbol_of(names: &IndexSet<&str>, name: &str) -> Result<Option<Aux>, AllocErr
 fn callee_of(names: &IndexSet<&str>, name: &str) -> Result<Option<Aux>, AllocError>
     ensures { IfOk result (λ found. found ≡ callee_of (map (λ n. n.now) names.now.keys) name.now) }
 {
-    if name == PANIC_DIVIDE {
-        Ok(Some(Aux::Sym(DIVIDE_NUMBER)))
-    } else if name == PANIC_SHIFT {
-        Ok(Some(Aux::Sym(SHIFT_NUMBER)))
+    if name == DIVIDE_NAME {
+        Ok(Some(Aux::Sym(PANIC_DIVIDE)))
+    } else if name == SHIFT_NAME {
+        Ok(Some(Aux::Sym(PANIC_SHIFT)))
     } else {
         symbol_of(names, name)
     }

@@ -44,10 +44,14 @@ fn is_written(family: Family) -> bool
 {
     match family {
         Family::ArgWord
+        | Family::ArgReg
         | Family::ResWord
+        | Family::ResReg
         | Family::OutWord
         | Family::RetWord
+        | Family::RetRegs
         | Family::Call
+        | Family::CallRegs
         | Family::Trap => false,
         Family::Arm(_) | Family::Rv(_) => false,
         _ => true,

@@ -1,7 +1,7 @@
 use Rattle.std.proofs.Common.{subst, sym}
 use Rattle.std.specs.List.{All}
 use Rattle.bk_ops.specs.declared.types.Target.TheVariants.{Riscv64}
-use Rattle.bk_rules_rv.specs.WordSound.{SoundWordRule}
+use Rattle.bk_rule.specs.WordSound.{SoundWordRule}
 use Rattle.bk_rules_rv.proofs.WholeList.{rv_list_sound}
 use Rattle.bk_rules_rv.proofs.rv_rules.Goals as goal
 

@@ -1,4 +1,4 @@
-use Rattle.std.proofs.Common.{◌≡◌, arith, sym, ap, ◌∙◌, if◌then◌else◌}
+use Rattle.std.proofs.Common.{arith, sym, ap, ◌∙◌, if◌then◌else◌}
 use Rattle.bk_rule.proofs.Opened.{opened}
 use Rattle.bk_rule.specs.Bindings.{bound_env}
 use Rattle.bk_rule.specs.Expressions.{at_variable, of_variable, on_one, on_two, unary, binary, variable_of, expr_value}

@@ -1,5 +1,5 @@
 use Rattle.std.proofs.Common.{◌≡◌, ◌++◌, map, take}
-use Rattle.bk_rules_generic.specs.Lines.{rule_at, pairs}
+use Rattle.bk_rules_generic.specs.Lines.{rule_at}
 use Rattle.bk_rules_generic.proofs.list.put_line.Given as goal
 
 abbrev pub invariant-loop-pair : goal.invariant-loop-pair
