@@ -1,7 +1,8 @@
 -- What the tables of a function and of a package say.
 use Rattle.std.specs.Prelude.{◌≡◌, ℕ, ◌<◌, ◌==◌, length, position, None, slice_index_or, unwrap_or}
 use Rattle.std.specs.BTreeMap.{get}
-use Rattle.std.specs.Ordering.{Ordering, nat_cmp, ordering_then}
+use Rattle.std.specs.Ordering.{nat_cmp, ordering_then}
+use Rattle.std.specs.declared.cmp.Ordering.{Ordering}
 use Rattle.bk_calls.specs.Chains.{WordPlan}
 use Rattle.bk_calls.specs.declared.callees.Callees.{Callees}
 use Rattle.bk_calls.specs.declared.plan.Plan.{Plan}

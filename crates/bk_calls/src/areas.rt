@@ -9,7 +9,7 @@ ghost use Rattle.bk_calls.specs.Chains.{turned, chained};
 ghost use Rattle.bk_calls.specs.Plans.{seen_plan};
 
 use crate::arguments::{Arguments, add_to_entry};
-use crate::budget::{count_after, count_values};
+use crate::budget::is_grown;
 use crate::plan::{Plan, is_end};
 use crate::turn::turn;
 use bk_func::{Block, Func, MOST_VALUES_MADE, Package, RewriteError, Value};
@@ -45,17 +45,15 @@ pub fn word_areas(
     let Ok(arguments) = Arguments::of(alloc, func, target) else {
         return Err(RewriteError::Memory);
     };
-    let Some(count) = count_values(&func.blocks) else {
-        return Err(RewriteError::Memory);
-    };
-    if count_after(&func.blocks, target, count, arguments.values.len() as u64).is_none() {
-        return Err(RewriteError::Grown {
+    match is_grown(func, target, &arguments.values) {
+        None => Err(RewriteError::Memory),
+        Some(true) => Err(RewriteError::Grown {
             values: MOST_VALUES_MADE as u64 + 1,
-        });
-    }
-    match put_in_words(alloc, func, pkg, target, arguments) {
-        Ok(()) => Ok(()),
-        Err(AllocError) => Err(RewriteError::Memory),
+        }),
+        Some(false) => match put_in_words(alloc, func, pkg, target, arguments) {
+            Ok(()) => Ok(()),
+            Err(AllocError) => Err(RewriteError::Memory),
+        },
     }
 }
 

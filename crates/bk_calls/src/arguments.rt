@@ -35,25 +35,25 @@ impl Arguments {
         ensures next { IfOk result (λ a. a.next ≡ first_made target func.now) }
     {
         let types = in_registers(target, &func.sig.args);
-        let named = named_places(alloc, &func.blocks, types.len())?;
         let Some(first) = greatest_value(func).checked_add(1) else {
             return Err(AllocError);
         };
-        Arguments::listed(alloc, &named, types, first)
+        Arguments::listed(alloc, &func.blocks, types, first)
     }
 
+    /// Of the arguments of these types those that the blocks name, numbered from `first` on.
     fn listed(
         alloc: Global,
-        named: &[bool],
+        blocks: &[Block],
         types: &[Ty],
         first: u32,
     ) -> Result<Arguments, AllocError>
-        requires few { length types.now ≤ 8 }
-        requires named { length types.now ≤ length named.now }
-        ensures values { IfOk result (λ a. (test : ℕ → Bool) → ((i : ℕ) → i < length types.now → slice_index_or named.now i false ≡ test i) → a.values.items ≡ arg_regs test 0 first types.now) }
-        ensures numbers { IfOk result (λ a. (i : ℕ) → get nat_cmp a.numbers i ≡ argument_number a.values.items i) }
-        ensures next { IfOk result (λ a. a.next ≡ first + length a.values.items) }
+        requires { length types.now ≤ 8 }
+        ensures values { IfOk result (λ a. a.values.items ≡ arg_regs (is_named blocks.now) 0 first types.now) }
+        ensures numbers { IfOk result (λ a. (i : ℕ) → get nat_cmp a.numbers i ≡ argument_number (arg_regs (is_named blocks.now) 0 first types.now) i) }
+        ensures next { IfOk result (λ a. a.next ≡ first + length (arg_regs (is_named blocks.now) 0 first types.now)) }
     {
+        let named = named_places(alloc, blocks, types.len())?;
         let mut arguments = Arguments {
             values: Vec::new(alloc),
             numbers: BTreeMap::new(alloc),
@@ -119,27 +119,27 @@ fn named_places(alloc: Global, blocks: &[Block], count: usize) -> Result<Vec<boo
     Ok(named)
 }
 
-fn note_names(named: &mut [bool], values: &[Value])
-    ensures len { length named.new ≡ length named.old }
-    ensures named { (i : ℕ) → i < length named.old → slice_index_or named.new i false ≡ (slice_index_or named.old i false || list_any (names i) values.now) }
+fn note_names(named: &mut Vec<bool>, values: &[Value])
+    ensures len { length named.new.items ≡ length named.old.items }
+    ensures named { (i : ℕ) → i < length named.old.items → slice_index_or named.new.items i false ≡ (slice_index_or named.old.items i false || list_any (names i) values.now) }
 {
     for value in values {
         note_name(named, value);
     }
 }
 
-fn note_name(named: &mut [bool], value: &Value)
-    ensures len { length named.new ≡ length named.old }
-    ensures named { (i : ℕ) → i < length named.old → slice_index_or named.new i false ≡ (slice_index_or named.old i false || names i value.now) }
+fn note_name(named: &mut Vec<bool>, value: &Value)
+    ensures len { length named.new.items ≡ length named.old.items }
+    ensures named { (i : ℕ) → i < length named.old.items → slice_index_or named.new.items i false ≡ (slice_index_or named.old.items i false || names i value.now) }
 {
     if role_of(value.op.family) == Role::Argument {
         mark(named, place_of_arg(value.aux) as usize);
     }
 }
 
-fn mark(named: &mut [bool], place: usize)
-    ensures len { length named.new ≡ length named.old }
-    ensures named { (i : ℕ) → i < length named.old → slice_index_or named.new i false ≡ (slice_index_or named.old i false || place == i) }
+fn mark(named: &mut Vec<bool>, place: usize)
+    ensures len { length named.new.items ≡ length named.old.items }
+    ensures named { (i : ℕ) → i < length named.old.items → slice_index_or named.new.items i false ≡ (slice_index_or named.old.items i false || place == i) }
 {
     if place < named.len() {
         named[place] = true;

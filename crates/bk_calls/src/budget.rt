@@ -1,17 +1,28 @@
 // How many values a function may have.
 ghost use Rattle.std.specs.Prelude.{◌≡◌, fold, length, sum_by, Some, IfSome};
 ghost use Rattle.bk_func.specs.Words.{register_words};
-ghost use Rattle.bk_calls.specs.Budget.{value_count, counted, count_next, grown_by};
+ghost use Rattle.bk_calls.specs.Budget.{counted, count_next, grown_by, is_grown};
+ghost use Rattle.bk_calls.specs.Arguments.{arguments_of};
 ghost use Rattle.bk_calls.specs.Areas.{made_for};
 
 use crate::callees::trap_of;
 use crate::plan::{is_end, register_count};
 use crate::role::{Role, role_of};
-use bk_func::{Block, MOST_VALUES_MADE, Value};
+use bk_func::{Block, Func, MOST_VALUES_MADE, Value};
 use bk_ops::Target;
 
+/// Whether a value past the limit would be added, where these stand for the arguments in registers; None where no
+/// machine word holds the count of values.
+pub(crate) fn is_grown(func: &Func, target: Target, arguments: &[Value]) -> Option<bool>
+    requires { arguments.now ≡ arguments_of target func.now }
+    ensures { IfSome result (λ grown. grown ≡ is_grown target func.now) }
+{
+    let count = count_values(&func.blocks)?;
+    Some(count_after(&func.blocks, target, count, arguments.len() as u64).is_none())
+}
+
 /// The count of the values; None where no machine word holds it.
-pub(crate) fn count_values(blocks: &[Block]) -> Option<u64>
+fn count_values(blocks: &[Block]) -> Option<u64>
     ensures { IfSome result (λ n. n ≡ sum_by (λ b. length b.values) blocks.now) }
 {
     let mut count = 0u64;
@@ -23,12 +34,7 @@ pub(crate) fn count_values(blocks: &[Block]) -> Option<u64>
 
 /// The count of values after so many arguments in registers and the turns of all values; None where a value past the
 /// limit would be added.
-pub(crate) fn count_after(
-    blocks: &[Block],
-    target: Target,
-    count: u64,
-    arguments: u64,
-) -> Option<u64>
+fn count_after(blocks: &[Block], target: Target, count: u64, arguments: u64) -> Option<u64>
     ensures { result ≡ fold (λ o b. fold (count_next (register_words target)) o b.values) (grown_by arguments count) blocks.now }
 {
     let registers = register_count(target);

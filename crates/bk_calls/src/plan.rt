@@ -46,7 +46,8 @@ impl Plan {
         arguments: BTreeMap<u32, u32>,
     ) -> Result<Plan, AllocError>
         requires { (i : ℕ) → get nat_cmp arguments i ≡ argument_number (arguments_of target func.now) i }
-        ensures { IfOk result (λ plan. seen_plan plan ≡ plan_of pkg.now target func.now) }
+        ensures plan { IfOk result (λ plan. seen_plan plan ≡ plan_of pkg.now target func.now) }
+        ensures registers { IfOk result (λ plan. plan.registers ≡ register_words target) }
     {
         let callees = Callees::new(alloc, pkg)?;
         let results = result_words(alloc, &callees, target, &func.blocks)?;

@@ -66,8 +66,7 @@ fn turn_to_copy(alloc: Global, value: &mut Value, of: u32) -> Result<(), AllocEr
 }
 
 fn turn_to_argument(alloc: Global, value: &mut Value, word: u32)
-    requires { word ≡ place_of_arg value.old.aux }
-    ensures { (p : WordPlan) → value.new ≡ given false p value.old }
+    ensures { value.new ≡ record value.old { op = plain Family.ArgWord; args = []; int = pos word; aux = Aux.Nothing } }
 {
     value.op = plain(Family::ArgWord);
     value.args = SmallVec::new(alloc);
