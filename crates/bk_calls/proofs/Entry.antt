@@ -1,15 +1,14 @@
 -- The arguments in registers, which the entry has last.
-use Rattle.std.proofs.Common.{◌≡◌, ◌∙◌, sym, ap, refl, ℕ, suc, ◌+◌, ◌<◌, ◌≤◌, ◌==◌, ◌||◌, Bool, true, false, cond, List, [], ◌∷◌, ◌++◌, length, take, drop, get_or, filter, sum_by, Option, Some, None, append_assoc, append-nil, add-one, drop-cons, length-append, ⊎_elim, arith}
+use Rattle.std.proofs.Common.{◌≡◌, ◌∙◌, sym, ap, refl, ℕ, ◌+◌, ◌<◌, ◌≤◌, ◌==◌, ◌||◌, Bool, true, false, cond, List, [], ◌∷◌, ◌++◌, length, take, drop, get_or, filter, sum_by, Option, Some, None, append_assoc, append-nil, add-one, drop-cons, length-append, arith}
 use Rattle.std.specs.List.{find, list_any}
 use Rattle.std.specs.Option.{option_or, option_map}
-use Rattle.std.proofs.lemmas.Bool.{cases_eq, eq-eqb, ne_eqb}
 use Rattle.std.proofs.lemmas.List.{drop_all, take_more}
 use Rattle.std.proofs.lemmas.List.Elements.{filter-append}
 use Rattle.std.proofs.lemmas.List.Folds.{find-append, list_any-append}
 use Rattle.std.proofs.lemmas.List.Sums.{sum_by-cons}
 use Rattle.bk_ops.specs.declared.types.Ty.{Ty}
 use Rattle.bk_func.specs.Numbers.{natural}
-use Rattle.bk_func.specs.Records.{ValueRecord, BlockRecord}
+use Rattle.bk_func.specs.Records.{ValueRecord}
 use Rattle.bk_calls.specs.Areas.{made_for, stays}
 use Rattle.bk_calls.specs.Arguments.{is_named, arg_reg, arg_regs, argument_number}
 use Rattle.bk_calls.proofs.Found.{map_or, found_one}

@@ -1,6 +1,6 @@
-use Rattle.std.proofs.Common.{◌∙◌, ap, ◌||◌, false, List, get_or, arith}
+use Rattle.std.proofs.Common.{◌∙◌, ap, ◌||◌, false, get_or, arith}
 use Rattle.std.specs.List.{list_any}
-use Rattle.bk_func.specs.Records.{ValueRecord, BlockRecord}
+use Rattle.bk_func.specs.Records.{BlockRecord}
 use Rattle.bk_calls.specs.Arguments.{names}
 use Rattle.bk_calls.proofs.Entry.{any_more}
 use Rattle.bk_calls.proofs.arguments.named_places.Goals as goal

@@ -1,6 +1,6 @@
-use Rattle.std.proofs.Common.{◌≡◌, ◌∙◌, ap, refl, ◌+◌, ◌<◌, false, List, length, arith}
+use Rattle.std.proofs.Common.{◌∙◌, ap, refl, ◌+◌, ◌<◌, false, List, length, arith}
 use Rattle.bk_func.specs.Records.{ValueRecord}
-use Rattle.bk_calls.specs.Arguments.{arg_regs, arg_reg, argument_number, is_named}
+use Rattle.bk_calls.specs.Arguments.{arg_regs, argument_number, is_named}
 use Rattle.bk_calls.proofs.Entry.{read_same, regs_next, regs_all, number_listed, listed_length}
 use Rattle.bk_calls.proofs.arguments.Arguments.listed.Goals as goal
 
