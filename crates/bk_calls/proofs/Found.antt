@@ -12,7 +12,7 @@ use Rattle.std.proofs.lemmas.List.Folds.{find-append, position_or_len_push, find
 use Rattle.std.proofs.lemmas.List.Sums.{prefix_len-le-length}
 use Rattle.std.proofs.lemmas.Option.{slice_get_read, slice_get_past}
 
-map_or : {A B : Type 0} (h : A → B) (p q : Option A) → option_map h (option_or p q) ≡ option_or (option_map h p) (option_map h q)
+pub map_or : {A B : Type 0} (h : A → B) (p q : Option A) → option_map h (option_or p q) ≡ option_or (option_map h p) (option_map h q)
 map_or h None q = refl
 map_or h (Some x) q = refl
 
@@ -20,7 +20,7 @@ or_or : {A : Type 0} (o p q : Option A) → option_or (option_or o p) q ≡ opti
 or_or None p q = refl
 or_or (Some x) p q = refl
 
-found_one : {A B : Type 0} (h : A → B) (p : A → Bool) (x : A) → option_map h (find p (x ∷ [])) ≡ cond (p x) (Some (h x)) None
+pub found_one : {A B : Type 0} (h : A → B) (p : A → Bool) (x : A) → option_map h (find p (x ∷ [])) ≡ cond (p x) (Some (h x)) None
 found_one h p x = elim (p x) as (λ b. option_map h (cond b (Some x) None) ≡ cond b (Some (h x)) None) [ true ↦ refl | false ↦ refl ]
 
 -- one more element is looked at

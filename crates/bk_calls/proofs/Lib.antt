@@ -6,3 +6,4 @@ pub mod Noted
 pub mod Planned
 pub mod Linked
 pub mod Renumbered
+pub mod Entry

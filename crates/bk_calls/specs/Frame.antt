@@ -14,7 +14,3 @@ frame_bytes t out slots = rounded (word_size t * (out + slots + 2))
 -- what a call needs: the frame, and above it the words of the function's own arguments and results
 abbrev pub need : Target → ℕ → ℕ → SigRecord → ℕ
 need t out slots g = frame_bytes t out slots + word_size t * (count_words t g.args + count_words t g.results)
-
--- the most that a call may need
-abbrev pub frame_limit : ℕ
-frame_limit = 2040

@@ -1,4 +1,5 @@
 pub mod Areas
+pub mod Arguments
 pub mod Budget
 pub mod Chains
 pub mod Frame

@@ -1,24 +1,33 @@
 // The function in words.
-ghost use Rattle.std.specs.Prelude.{◌≡◌, ◌+◌, ◌++◌, filter, flat_map, sum_by, true, false, IfOk, OnOk, IfErr, ◌⊎◌};
+ghost use Rattle.std.specs.Prelude.{◌≡◌, ◌+◌, ◌++◌, ℕ, filter, flat_map, sum_by, true, false, IfOk, OnOk, IfErr, ◌⊎◌};
+ghost use Rattle.std.specs.BTreeMap.{get};
+ghost use Rattle.std.specs.Ordering.{nat_cmp};
 ghost use Rattle.bk_calls.specs.Areas.{areas_of, area_block, area_control, area_values, made_for, made_in, numbered, stays};
+ghost use Rattle.bk_calls.specs.Arguments.{arguments_of, argument_number, first_made};
 ghost use Rattle.bk_calls.specs.Budget.{is_grown};
 ghost use Rattle.bk_calls.specs.Chains.{turned, chained};
 ghost use Rattle.bk_calls.specs.Plans.{seen_plan};
 
-use crate::budget::{VALUE_LIMIT, count_after, count_values};
+use crate::arguments::{Arguments, add_to_entry};
+use crate::budget::is_grown;
 use crate::plan::{Plan, is_end};
 use crate::turn::turn;
-use bk_func::{Block, Func, Package, RewriteError, Value, greatest_value};
+use bk_func::{Block, Func, MOST_VALUES_MADE, Package, RewriteError, Value};
 use bk_ops::Target;
 use std::alloc::{AllocError, Global};
 
-/// Puts the arguments and results of a function, and of the calls in it, into words: `Arg` becomes `ARGWORD`, a call a
-/// chain of `OUTWORD` and `CALL`, `SelectN` `RESWORD` or a copy of memory, `MakeResult` a chain of `RETWORD`; a call of
-/// a function that panics becomes `TRAP`. The word of an argument or a result is its place; on arm these places count
-/// words.
+/// Puts the arguments and results of a function, and of the calls in it, into words. On riscv64 registers hold the first
+/// eight words of arguments and of results; on arm all are in memory.
 ///
-/// Each value keeps its number and place. What is made for it is numbered from the greatest number upwards, and stands
-/// last in the block. A `MakeResult` without results goes, and its memory is the control in its place.
+/// For each argument that a register holds and an `Arg` names, in rising order, an `ARGREG` is added last in the entry,
+/// and such an `Arg` becomes a copy of it. Any other `Arg` becomes `ARGWORD`, a call a chain of `OUTWORD` and `CALL` or
+/// `CALLREGS`, `SelectN` `RESWORD`, `RESREG` or a copy, of memory or of the `RESREG` of the same result, and `MakeResult`
+/// a chain of `RETWORD`, and of `RETREGS` on riscv64; a call of a function that panics becomes `TRAP`. The word of an
+/// argument or a result is its place; on arm these places count words.
+///
+/// Each value keeps its number and place. What is made is numbered from the greatest number upwards: the `ARGREG`s, then
+/// value by value what is made for it, which stands last in the block. A `MakeResult` without results goes, and its memory
+/// is the control in its place.
 ///
 /// It answers Grown where a value past 32,768 would be added, and leaves the function as before. After want of memory
 /// the function is unfinished.
@@ -29,21 +38,22 @@ pub fn word_areas(
     target: Target,
 ) -> Result<(), RewriteError>
     ensures ok { OnOk result (func.new ≡ areas_of pkg.now target func.old) }
-    ensures room { OnOk result (is_grown func.old ≡ false) }
-    ensures grown { IfErr result (λ e. (e ≡ RewriteError.Memory) ⊎ ((e ≡ RewriteError.Grown 32769) × (is_grown func.old ≡ true))) }
+    ensures room { OnOk result (is_grown target func.old ≡ false) }
+    ensures grown { IfErr result (λ e. (e ≡ RewriteError.Memory) ⊎ ((e ≡ RewriteError.Grown 32769) × (is_grown target func.old ≡ true))) }
     ensures kept { IfErr result (λ e. e ≡ RewriteError.Grown 32769 → func.new ≡ func.old) }
 {
-    let Some(count) = count_values(&func.blocks) else {
+    let Ok(arguments) = Arguments::of(alloc, func, target) else {
         return Err(RewriteError::Memory);
     };
-    if count_after(&func.blocks, count).is_none() {
-        return Err(RewriteError::Grown {
-            values: VALUE_LIMIT + 1,
-        });
-    }
-    match put_in_words(alloc, func, pkg, target) {
-        Ok(()) => Ok(()),
-        Err(AllocError) => Err(RewriteError::Memory),
+    match is_grown(func, target, &arguments.values) {
+        None => Err(RewriteError::Memory),
+        Some(true) => Err(RewriteError::Grown {
+            values: MOST_VALUES_MADE as u64 + 1,
+        }),
+        Some(false) => match put_in_words(alloc, func, pkg, target, arguments) {
+            Ok(()) => Ok(()),
+            Err(AllocError) => Err(RewriteError::Memory),
+        },
     }
 }
 
@@ -52,14 +62,21 @@ fn put_in_words(
     func: &mut Func,
     pkg: &Package,
     target: Target,
+    arguments: Arguments,
 ) -> Result<(), AllocError>
+    requires values { arguments.values.items ≡ arguments_of target func.old }
+    requires numbers { (i : ℕ) → get nat_cmp arguments.numbers i ≡ argument_number (arguments_of target func.old) i }
+    requires next { arguments.next ≡ first_made target func.old }
     ensures { OnOk result (func.new ≡ areas_of pkg.now target func.old) }
 {
-    let plan = Plan::new(alloc, func, pkg, target)?;
-    let Some(first) = greatest_value(func).checked_add(1) else {
-        return Err(AllocError);
-    };
-    turn_blocks(alloc, &plan, &mut func.blocks, first)
+    let Arguments {
+        values,
+        numbers,
+        next,
+    } = arguments;
+    let plan = Plan::new(alloc, func, pkg, target, numbers)?;
+    add_to_entry(&mut func.blocks, values)?;
+    turn_blocks(alloc, &plan, &mut func.blocks, next)
 }
 
 fn turn_blocks(
@@ -68,7 +85,7 @@ fn turn_blocks(
     blocks: &mut [Block],
     first: u32,
 ) -> Result<(), AllocError>
-    ensures { OnOk result (blocks.new ≡ numbered (area_block (seen_plan plan.now)) made_in first blocks.old) }
+    ensures { OnOk result (blocks.new ≡ numbered (area_block (seen_plan plan.now)) (made_in plan.now.registers) first blocks.old) }
 {
     let mut next = first;
     for block in blocks.iter_mut() {
@@ -80,7 +97,7 @@ fn turn_blocks(
 /// Turns the values of a block, and gives the number after those that are made.
 fn turn_block(alloc: Global, plan: &Plan, block: &mut Block, first: u32) -> Result<u32, AllocError>
     ensures block { OnOk result (block.new ≡ area_block (seen_plan plan.now) first block.old) }
-    ensures next { IfOk result (λ n. n ≡ first + made_in block.old) }
+    ensures next { IfOk result (λ n. n ≡ first + made_in plan.now.registers block.old) }
 {
     block.control = turn_control(plan, block.control);
     keep_values(&mut block.values);
@@ -111,7 +128,7 @@ fn turn_and_append(
     first: u32,
 ) -> Result<u32, AllocError>
     ensures values { OnOk result (values.new.items ≡ area_values (seen_plan plan.now) first values.old.items) }
-    ensures next { IfOk result (λ n. n ≡ first + sum_by made_for values.old.items) }
+    ensures next { IfOk result (λ n. n ≡ first + sum_by (made_for plan.now.registers) values.old.items) }
 {
     let mut made = Vec::new(alloc);
     let next = turn_values(alloc, plan, values, &mut made, first)?;
@@ -127,9 +144,9 @@ fn turn_values(
     made: &mut Vec<Value>,
     first: u32,
 ) -> Result<u32, AllocError>
-    ensures values { OnOk result (values.new ≡ numbered (turned (seen_plan plan.now)) made_for first values.old) }
-    ensures made { OnOk result (made.new.items ≡ made.old.items ++ flat_map (λ ws. ws) (numbered (chained (seen_plan plan.now)) made_for first values.old)) }
-    ensures next { IfOk result (λ n. n ≡ first + sum_by made_for values.old) }
+    ensures values { OnOk result (values.new ≡ numbered (turned (seen_plan plan.now)) (made_for plan.now.registers) first values.old) }
+    ensures made { OnOk result (made.new.items ≡ made.old.items ++ flat_map (λ ws. ws) (numbered (chained (seen_plan plan.now)) (made_for plan.now.registers) first values.old)) }
+    ensures next { IfOk result (λ n. n ≡ first + sum_by (made_for plan.now.registers) values.old) }
 {
     let mut next = first;
     for value in values.iter_mut() {

@@ -7,22 +7,17 @@ ghost use Rattle.bk_calls.specs.Areas.{args_of};
 ghost use Rattle.bk_calls.specs.Chains.{trap_of};
 ghost use Rattle.bk_calls.specs.Plans.{AreCallees};
 
-use bk_func::{Aux, Func, Package};
+use bk_func::{Aux, Func, PANIC_DIVIDE, PANIC_SHIFT, Package, TRAP_DIVIDE, TRAP_SHIFT};
 use bk_ops::Ty;
 use std::alloc::{AllocError, Global};
-
-/// The symbol of `runtime.panicdivide`, a function without arguments.
-const PANIC_DIVIDE: u32 = 4_294_967_294;
-/// The symbol of `runtime.panicshift`, a function without arguments.
-const PANIC_SHIFT: u32 = 4_294_967_295;
 
 /// The trap that a call stands for: the callee panics.
 pub(crate) fn trap_of(aux: Aux) -> Option<u8>
     ensures { result ≡ trap_of aux }
 {
     match aux {
-        Aux::Sym(PANIC_DIVIDE) => Some(3),
-        Aux::Sym(PANIC_SHIFT) => Some(4),
+        Aux::Sym(PANIC_DIVIDE) => Some(TRAP_DIVIDE),
+        Aux::Sym(PANIC_SHIFT) => Some(TRAP_SHIFT),
         _ => None,
     }
 }

@@ -1,5 +1,5 @@
 // Chains of values that put numbers into words.
-ghost use Rattle.std.specs.Prelude.{◌≡◌, ◌+◌, ◌++◌, ◌∷◌, [], IfOk, OnOk, length, pos};
+ghost use Rattle.std.specs.Prelude.{◌≡◌, ◌+◌, ◌++◌, ◌∷◌, [], IfOk, OnOk, length, take, drop, pos};
 ghost use Rattle.bk_calls.specs.Chains.{front, last, area_word, chain, memory_after, plain};
 
 use bk_func::{Aux, Value};
@@ -29,6 +29,34 @@ pub(crate) fn last(numbers: &[u32]) -> u32
         Some(number) => *number,
         None => 0,
     }
+}
+
+/// Of the numbers those that so many registers hold: the first.
+pub(crate) fn held(numbers: &[u32], registers: u32) -> &[u32]
+    ensures { result.now ≡ take registers numbers.now }
+{
+    &numbers[..numbers.len().min(registers as usize)]
+}
+
+/// The numbers behind those that so many registers hold.
+pub(crate) fn behind(numbers: &[u32], registers: u32) -> &[u32]
+    ensures { result.now ≡ drop registers numbers.now }
+{
+    &numbers[numbers.len().min(registers as usize)..]
+}
+
+/// The numbers that so many registers hold, and memory.
+pub(crate) fn handed(
+    alloc: Global,
+    numbers: &[u32],
+    registers: u32,
+    memory: u32,
+) -> Result<SmallVec<u32, 4>, AllocError>
+    ensures { IfOk result (λ args. args.items ≡ take registers numbers.now ++ memory ∷ []) }
+{
+    let mut args = SmallVec::from_slice(alloc, held(numbers, registers))?;
+    args.push(memory)?;
+    Ok(args)
 }
 
 /// The number of the next value and the next word, and the memory that it follows.

@@ -1,14 +1,12 @@
 // Frames.
 ghost use Rattle.std.specs.Prelude.{◌≡◌, ◌+◌, ◌*◌, ◌≤◌, ◌<◌, ◌↔◌, length, IfOk, IfErr, IsErr};
 ghost use Rattle.bk_ops.specs.Types.{word_size};
+ghost use Rattle.bk_func.specs.Limits.{most_frame};
 ghost use Rattle.bk_func.specs.Words.{count_words};
-ghost use Rattle.bk_calls.specs.Frame.{frame_bytes, need, frame_limit};
+ghost use Rattle.bk_calls.specs.Frame.{frame_bytes, need};
 
-use bk_func::{Sig, count_words};
+use bk_func::{MOST_FRAME, Sig, count_words};
 use bk_ops::{Target, Ty, size};
-
-/// The most bytes that a call may need.
-const FRAME_LIMIT: u32 = 2_040;
 
 /// Why a function has no frame.
 #[derive(Clone, Copy, PartialEq, Eq, Debug)]
@@ -21,18 +19,18 @@ pub enum FrameError {
 /// return address.
 ///
 /// It is refused where the frame and the words of the function's own arguments and results, which stand above it, take
-/// more than 2,040 bytes.
+/// more than 32,760 bytes.
 pub fn frame_of(out: u32, slots: u32, sig: &Sig, target: Target) -> Result<u32, FrameError>
     requires out { out ≤ 128 }
     requires slots { slots ≤ 32768 }
     requires sig { length sig.now.args + length sig.now.results ≤ 64 }
     ensures ok { IfOk result (λ frame. frame ≡ frame_bytes target out slots) }
     ensures refused { IfErr result (λ e. e ≡ FrameError.Frame (need target out slots sig.now)) }
-    ensures limit { IsErr result ↔ (frame_limit < need target out slots sig.now) }
+    ensures limit { IsErr result ↔ (most_frame < need target out slots sig.now) }
 {
     let frame = frame_bytes(out, slots, target);
     let need = frame + own_bytes(sig, target);
-    if need > FRAME_LIMIT {
+    if need > MOST_FRAME {
         return Err(FrameError::Frame { need });
     }
     Ok(frame)

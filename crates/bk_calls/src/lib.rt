@@ -1,7 +1,8 @@
-//! Calls in words: the arguments and results of calls go to words of memory, and the frames that hold them.
+//! Calls in words: the arguments and results of calls go to registers and to words of memory, and the frames that hold them.
 #![tactic(auto)]
 
 mod areas;
+mod arguments;
 mod budget;
 mod callees;
 mod chains;

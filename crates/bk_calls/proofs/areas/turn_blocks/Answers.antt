@@ -19,7 +19,7 @@ loop-block-preserved c =
     let e = at_element xs ys i c.block-item.result l k before.left in
     record {
       left = left_after xs ys i x y l k before.left;
-      blocks = changed_next (area_block p) made_in xs ys (numbered (area_block p) made_in c.args.first ys) i c.loop-block.next c.in_ok-next.next x y l e
+      blocks = changed_next (area_block p) (made_in c.args.plan.now.registers) xs ys (numbered (area_block p) (made_in c.args.plan.now.registers) c.args.first ys) i c.loop-block.next c.in_ok-next.next x y l e
           is.block is.next before.blocks;
     }
 
@@ -27,5 +27,5 @@ pub returns : goal.returns
 returns c =
     let p = seen_plan c.args.plan.now in
     let ys = c.args.blocks.now in
-    changed_all (area_block p) made_in c.loop-block.blocks ys (numbered (area_block p) made_in c.args.first ys) c.loop-block.block-index c.loop-block.next
+    changed_all (area_block p) (made_in c.args.plan.now.registers) c.loop-block.blocks ys (numbered (area_block p) (made_in c.args.plan.now.registers) c.args.first ys) c.loop-block.block-index c.loop-block.next
     (omega arith) (omega arith) c.loop-block.invariant.blocks

@@ -22,23 +22,23 @@ loop-value-preserved c =
     let e = at_element xs ys i c.value-item.result l k before.left in
     record {
       left = left_after xs ys i x y l k before.left;
-      values = changed_next (turned p) made_for xs ys (numbered (turned p) made_for c.args.first ys) i n m x y l e is.value is.next before.values;
-      made = listed_next (chained p) made_for ys c.loop-value.made.items c.turn.new.made.items
-          (c.args.made.now.items ++ flat_map (λ ws. ws) (numbered (chained p) made_for c.args.first ys)) i n m x e is.made is.next before.made;
-      next = number_next made_for ys i n m (c.args.first + sum_by made_for ys) x e is.next before.next;
+      values = changed_next (turned p) (made_for c.args.plan.now.registers) xs ys (numbered (turned p) (made_for c.args.plan.now.registers) c.args.first ys) i n m x y l e is.value is.next before.values;
+      made = listed_next (chained p) (made_for c.args.plan.now.registers) ys c.loop-value.made.items c.turn.new.made.items
+          (c.args.made.now.items ++ flat_map (λ ws. ws) (numbered (chained p) (made_for c.args.plan.now.registers) c.args.first ys)) i n m x e is.made is.next before.made;
+      next = number_next (made_for c.args.plan.now.registers) ys i n m (c.args.first + sum_by (made_for c.args.plan.now.registers) ys) x e is.next before.next;
     }
 
 pub returns-clause-values : goal.returns-clause-values
 returns-clause-values c =
     let p = seen_plan c.args.plan.now in
     let ys = c.args.values.now in
-    changed_all (turned p) made_for c.loop-value.values ys (numbered (turned p) made_for c.args.first ys) c.loop-value.value-index c.loop-value.next
+    changed_all (turned p) (made_for c.args.plan.now.registers) c.loop-value.values ys (numbered (turned p) (made_for c.args.plan.now.registers) c.args.first ys) c.loop-value.value-index c.loop-value.next
     (omega arith) (omega arith) c.loop-value.invariant.values
 
 pub returns-clause-made : goal.returns-clause-made
 returns-clause-made c =
     let p = seen_plan c.args.plan.now in
     let ys = c.args.values.now in
-    listed_all (chained p) made_for ys c.loop-value.made.items
-    (c.args.made.now.items ++ flat_map (λ ws. ws) (numbered (chained p) made_for c.args.first ys)) c.loop-value.value-index c.loop-value.next
+    listed_all (chained p) (made_for c.args.plan.now.registers) ys c.loop-value.made.items
+    (c.args.made.now.items ++ flat_map (λ ws. ws) (numbered (chained p) (made_for c.args.plan.now.registers) c.args.first ys)) c.loop-value.value-index c.loop-value.next
     (omega arith) c.loop-value.invariant.made

@@ -6,10 +6,10 @@ use Rattle.bk_calls.specs.declared.role.Role.{Role}
 use Rattle.bk_calls.specs.declared.role.Role.TheVariants.{Argument}
 use Rattle.bk_calls.proofs.turn.turn.Goals as goal
 
-pub returns-in-Argument-clause-value : goal.returns-in-Argument-clause-value
-returns-in-Argument-clause-value c =
+pub returns-in_ok-turn_argument-in-Argument-clause-value : goal.returns-in_ok-turn_argument-in-Argument-clause-value
+returns-in_ok-turn_argument-in-Argument-clause-value c =
     let v = c.args.value.now in
     let p = seen_plan c.args.plan.now in
     let seen = ap (λ (u : ValueRecord). role u) c.value.view_is in
     let is : Argument ≡ role v = cc in
-    c.turn_argument.ensures p c.args.next ∙ ap (λ (r : Role). turned_by r p c.args.next v) is
+    c.in_ok-turn_argument-in-Argument.ensures c.args.next ∙ ap (λ (r : Role). turned_by r p c.args.next v) is

@@ -11,4 +11,4 @@ returns-then-is_memory c =
     let p = seen_plan c.args.plan.now in
     let seen = ap (λ (u : ValueRecord). is_mem u.ty) c.value.view_is in
     let is : true ≡ is_mem v.ty = cc in
-    c.turn_to_copy.ensures p ∙ ap (λ (b : Bool). selected b p v) is
+    c.turn_to_memory.ensures p ∙ ap (λ (b : Bool). selected b p v) is
