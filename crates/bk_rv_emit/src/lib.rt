@@ -9,5 +9,6 @@ mod table;
 mod units;
 mod written;
 
-pub use bk_fixup::{Handle, Memory, Patch, Piece};
+pub use bk_func::Memory;
+pub use bk_piece::{Handle, Patch, Piece};
 pub use pieces::emit;
