@@ -9,4 +9,5 @@ pub mod Numbers
 pub mod Records
 pub mod Steps
 pub mod Symbols
+pub mod Traps
 pub mod Words

@@ -20,9 +20,10 @@ use Rattle.bk_func.specs.declared.parts.Aux.{Aux}
 use Rattle.bk_func.specs.declared.parts.Aux.TheVariants as beside
 use Rattle.bk_func.specs.declared.parts.Kind.{Kind}
 use Rattle.bk_func.specs.declared.parts.Kind.TheVariants.{Plain, If, First, Ret, Exit}
-use Rattle.bk_func.specs.Records.{ValueRecord, BlockRecord, FuncRecord, SigRecord, PackageRecord}
+use Rattle.bk_func.specs.Records.{ValueRecord, BlockRecord, FuncRecord, SigRecord}
 use Rattle.bk_func.specs.Edits.{block_of, nth_place, rank_in}
 use Rattle.bk_func.specs.Symbols.{panic_divide, panic_shift, symbol_of, sig_of_some, sig_of}
+use Rattle.bk_func.specs.Traps.{trap_nil, trap_bounds, trap_divide, trap_shift, trap_stack, trap_exit}
 use Rattle.bk_func.specs.Words.{words_at, fitted}
 use Rattle.bk_func.specs.Numbers.{Program, Env, Origin, phi, loaded, checked, origin_of, value_in, value_of, natural, is_mem, is_truth, address_by, load_size, numbers}
 use Rattle.bk_func.specs.Effects.{Effect, store, zeros, move, panic_bounds, call, call_words, out_word, ret_word, ret_words, trap, pass, effect_of, chain_from, order}
@@ -76,7 +77,7 @@ Calls = ℕ → List ℕ → ℕ → World → Run (List ℕ)
 
 -- how a check or a load ends the run: at a nil pointer, or outside the data window
 abbrev pub fault_by : Origin → Target → (ℕ → ℕ) → List ℕ → ValueRecord → Option Outcome
-fault_by checked t m window v = if m (slice_index v.args 0) % 2 ^ word_width t == 0 then Some (trapped 1) else None
+fault_by checked t m window v = if m (slice_index v.args 0) % 2 ^ word_width t == 0 then Some (trapped trap_nil) else None
 fault_by loaded t m window v =
     if is_within data_base window (load_size t v.ty v.op v.op.family) (address_by t v m) then None else Some (wild (address_by t v m))
 fault_by _ t m window v = None
@@ -153,7 +154,7 @@ done_by (Some move) calls p m v a w =
     let to = m (slice_index v.args 0) % 2 ^ word_width p.target in
     let from = m (slice_index v.args 1) % 2 ^ word_width p.target in
     if natural v.int == 0 then gives a w else moved (number_at w.window (natural v.int) from) (natural v.int) to from a w
-done_by (Some panic_bounds) calls p m v a w = stops (trapped 2) w.window
+done_by (Some panic_bounds) calls p m v a w = stops (trapped trap_bounds) w.window
 done_by (Some call) calls p m v a w =
     bind (calls (symbol_of v.aux) (map m (without_memory v.args)) a.stack w) (λ results w. gives (with_given a v.id results) w)
 done_by (Some call_words) calls p m v a w =
@@ -252,7 +253,7 @@ left_by Plain enter p i f b a w = onto enter i f b 0 a w
 left_by First enter p i f b a w = onto enter i f b 0 a w
 left_by If enter p i f b a w = if is_taken p f a b.control then onto enter i f b 0 a w else onto enter i f b 1 a w
 left_by Ret enter p i f b a w = gives (results_by (value_named f b.control) p f a) w
-left_by Exit enter p i f b a w = stops (trapped 6) w.window
+left_by Exit enter p i f b a w = stops (trapped trap_exit) w.window
 
 -- calls
 
@@ -276,36 +277,36 @@ entry_id (b ∷ bs) = b.id
 
 -- a call traps where its frame exceeds the stack left, before a block is entered
 abbrev pub begun_in : Option FuncRecord → Entries → Program → Begun
-begun_in None enter p i args stack w = stops (trapped 6) w.window
+begun_in None enter p i args stack w = stops (trapped trap_exit) w.window
 begun_in (Some f) enter p i args stack w =
     if nat_lt stack (slice_index p.frames i)
-    then stops (trapped 5) w.window
+    then stops (trapped trap_stack) w.window
     else enter i (fresh args (stack - slice_index p.frames i)) (entry_id f.blocks) 0 w
 
 abbrev pub begun : Entries → Program → Begun
 begun enter p i args stack w = begun_in (slice_get p.pkg.funcs i) enter p i args stack w
 
 abbrev pub begun_at : Option ℕ → Begun → List ℕ → ℕ → World → Run (List ℕ)
-begun_at None begin args stack w = stops (trapped 6) w.window
+begun_at None begin args stack w = stops (trapped trap_exit) w.window
 begun_at (Some i) begin args stack w = begin i args stack w
 
 abbrev pub called : Entries → Program → Calls
 called enter p s args stack w =
     if s == panic_divide
-    then stops (trapped 3) w.window
-    else (if s == panic_shift then stops (trapped 4) w.window else begun_at (position (λ g. g.name == s) p.pkg.funcs) (begun enter p) args stack w)
+    then stops (trapped trap_divide) w.window
+    else (if s == panic_shift then stops (trapped trap_shift) w.window else begun_at (position (λ g. g.name == s) p.pkg.funcs) (begun enter p) args stack w)
 
 -- runs
 
 -- a block from its entry on
 abbrev pub in_block : Option BlockRecord → Entries → Program → ℕ → FuncRecord → Activation → ℕ → World → Run (List ℕ)
-in_block None enter p i f a place w = stops (trapped 6) w.window
+in_block None enter p i f a place w = stops (trapped trap_exit) w.window
 in_block (Some b) enter p i f a place w =
     let a = entered p f b place a w in
     bind (performed (called enter p) p f b (chain_from f b a.memory) a w) (left_by b.kind enter p i f b)
 
 abbrev pub in_func : Option FuncRecord → Entries → Program → Entries
-in_func None enter p i a id place w = stops (trapped 6) w.window
+in_func None enter p i a id place w = stops (trapped trap_exit) w.window
 in_func (Some f) enter p i a id place w = in_block (block_of f id) enter p i f a place w
 
 abbrev pub at_count : ℕ → World → (World → Run (List ℕ)) → Run (List ℕ)

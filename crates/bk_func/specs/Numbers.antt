@@ -2,7 +2,7 @@
 --
 -- Arguments, phis and the results of calls have their numbers from outside, and each state of memory has its data window.
 -- Every other value has a number that follows from these, by recursion on its arguments.
-use Rattle.std.specs.Prelude.{ℕ, zero, suc, ℤ, pos, negsuc, ◌+◌, ◌-◌, ◌%◌, ◌^◌, ◌==◌, Bool, true, false, ◌&&◌, if◌then◌else◌, List, [], ◌∷◌, length, map, flat_map, count_by, find, slice_get, slice_index, Option, Some, None, unwrap_or, option_map}
+use Rattle.std.specs.Prelude.{ℕ, zero, suc, ℤ, pos, negsuc, ◌+◌, ◌-◌, ◌%◌, ◌^◌, ◌==◌, Bool, true, false, ◌&&◌, if◌then◌else◌, List, [], ◌∷◌, length, map, flat_map, find, slice_get, slice_index, Option, Some, None, unwrap_or, option_map}
 use Rattle.std.specs.List.{last_or}
 use Rattle.bk_num.specs.Word.{signed, residue}
 use Rattle.bk_num.specs.Memory.{data_base}

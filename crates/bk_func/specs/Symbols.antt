@@ -1,5 +1,5 @@
 -- The functions that calls name, and their signatures.
-use Rattle.std.specs.Prelude.{ℕ, ◌==◌, List, [], find, Option, Some, None}
+use Rattle.std.specs.Prelude.{ℕ, ◌==◌, [], find, Option, Some, None}
 use Rattle.bk_func.specs.declared.parts.Aux.{Aux}
 use Rattle.bk_func.specs.declared.parts.Aux.TheVariants as beside
 use Rattle.bk_func.specs.Records.{FuncRecord, SigRecord, PackageRecord}
