@@ -16,6 +16,7 @@ use std::collections::BTreeMap;
 
 /// The register of the return address, and that of the bound of the stack.
 const RETURN: u8 = 1;
+
 const BOUND: u8 = 27;
 
 /// The most bytes of a frame that one instruction adds and takes away.
