@@ -3,7 +3,8 @@ ghost use Rattle.std.specs.Prelude.{◌≡◌, ◌≢◌, ◌+◌, ◌<◌, ◌^
 ghost use Rattle.bk_core.specs.Rule.{nobody, worker};
 ghost use Rattle.bk_core.specs.Events.{CoreState, both, words_of, with_word, PartsFit, after, CanHappen};
 
-use crate::views::{Memory, View};
+use crate::views::View;
+use bk_ops::Memory;
 use std::alloc::Global;
 use std::marker::Model;
 use std::mem;

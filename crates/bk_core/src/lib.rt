@@ -8,8 +8,9 @@ mod laws;
 mod tests;
 mod views;
 
+pub use bk_ops::Memory;
 pub use events::{Core, Event, step};
 pub use laws::{
     all_parts_know_all, each_is_drawn, every_run, one_event, one_is_free, one_key_one_cell,
 };
-pub use views::{Memory, View};
+pub use views::View;

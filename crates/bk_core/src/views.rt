@@ -3,24 +3,9 @@ ghost use Rattle.std.specs.Prelude.{[], ◌≡◌, ◌+◌, ◌<◌, ◌^◌, On
 ghost use Rattle.bk_core.specs.Rule.{Sight, sight, nobody};
 ghost use Rattle.bk_core.specs.Events.{drew, saw, both};
 
-use std::alloc::{AllocError, AllocFailed, Global};
+use bk_ops::Memory;
+use std::alloc::Global;
 use std::marker::Model;
-
-/// There was not enough memory.
-#[derive(Debug, Clone, Copy, PartialEq, Eq)]
-pub struct Memory;
-
-impl From<AllocError> for Memory {
-    fn from(_: AllocError) -> Memory {
-        Memory
-    }
-}
-
-impl<T: Drop> From<AllocFailed<T>> for Memory {
-    fn from(_: AllocFailed<T>) -> Memory {
-        Memory
-    }
-}
 
 /// What one worker has and knows.
 #[derive(Drop)]

@@ -11,10 +11,8 @@ use Rattle.bk_ops.specs.Types.{code_of}
 use Rattle.bk_func.specs.declared.parts.Aux.{Aux}
 use Rattle.bk_func.specs.declared.parts.Aux.TheVariants as aux
 use Rattle.bk_func.specs.Records.{ValueRecord, BlockRecord, FuncRecord}
-use Rattle.bk_fixup.specs.declared.keys.Key.{Key}
-
-abbrev pub key_in : ℕ → ℕ → Key
-key_in a k = record { area = a; key = k }
+use Rattle.bk_piece.specs.declared.Key.{Key}
+use Rattle.bk_piece.specs.Filled.{key_in}
 
 -- the key of a symbol: the number of its name plus 1, in area 0
 abbrev pub symbol_key : Aux → Option Key

@@ -1,5 +1,4 @@
 pub mod Keys
 pub mod Patches
-pub mod Pieces
 pub mod Rounds
 pub mod Sizes

@@ -2,8 +2,8 @@
 use Rattle.std.specs.Prelude.{ℕ, ◌+◌, ◌-◌, ◌*◌, ◌/◌, ◌%◌, ◌^◌, List, slice_index, slice_set}
 use Rattle.bk_ops.specs.declared.types.Target.{Target}
 use Rattle.bk_ops.specs.declared.types.Target.TheVariants.{Arm, Riscv64}
-use Rattle.bk_fixup.specs.declared.patches.Patch.{Patch}
-use Rattle.bk_fixup.specs.declared.patches.Patch.TheVariants.{Call, Addr, Pool}
+use Rattle.bk_piece.specs.declared.Patch.{Patch}
+use Rattle.bk_piece.specs.declared.Patch.TheVariants.{Call, Addr, Pool}
 
 -- how many words are patched
 abbrev pub patched_words : Target → Patch → ℕ

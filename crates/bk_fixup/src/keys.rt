@@ -6,16 +6,8 @@ ghost use Rattle.bk_fixup.specs.Keys.{symbol_key, constant_key, type_key, key_of
 use bk_func::{Aux, Block, Func, Value};
 use bk_num::residue;
 use bk_ops::{ArmOp, Family, Memory, RvOp, Ty, code};
+use bk_piece::Key;
 use std::alloc::{AllocError, Global};
-
-/// What stands behind a handle: a word of an area of the shared table, never 0.
-#[derive(Debug, Clone, Copy, PartialEq, Eq, Hash)]
-pub struct Key {
-    /// 0 for symbols, 1 for types of signatures, 2 for constants of the pool.
-    pub area: u8,
-    /// The number of the symbol's name plus 1, the type's code, or the constant.
-    pub key: u64,
-}
 
 /// The keys of a function, with repeats: those of its values, blocks and values in list order, then those of the types of its
 /// signature's arguments and results.

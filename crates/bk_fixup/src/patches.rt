@@ -3,17 +3,7 @@ ghost use Rattle.std.specs.Prelude.{◌≡◌, ◌≤◌, ◌<◌, ◌/◌, ◌%
 ghost use Rattle.bk_fixup.specs.Patches.{patched_words, patched, number_of, distance, with_number, with_offset, with_half};
 
 use bk_ops::Target;
-
-/// What a unit's words wait for.
-#[derive(Clone, Copy, PartialEq, Eq, Debug)]
-pub enum Patch {
-    /// The function that is called: AUIPC and JALR, or BL.
-    Call,
-    /// The address of a symbol: LUI and ADDI, or MOVW and MOVT.
-    Addr,
-    /// The address of a constant: LUI and LD. There is none on arm.
-    Pool,
-}
+use bk_piece::Patch;
 
 /// Puts the address of what a unit waits for into the unit's words, which stand at the address `place`. `words` begins at the
 /// first word to patch.

@@ -3,9 +3,9 @@ use Rattle.std.proofs.Common.{◌≡◌, ◌∙◌, ap, subst, ℕ, List, Option
 use Rattle.std.proofs.Math.Path.{fun_ext}
 use Rattle.std.specs.Prelude.{slice_index}
 use Rattle.bk_func.specs.Records.{FuncRecord, PlacedRecord}
-use Rattle.bk_fixup.specs.declared.Handle.{Handle}
-use Rattle.bk_fixup.specs.declared.patches.Patch.{Patch}
-use Rattle.bk_fixup.specs.Pieces.{PieceRecord}
+use Rattle.bk_piece.specs.declared.Handle.{Handle}
+use Rattle.bk_piece.specs.declared.Patch.{Patch}
+use Rattle.bk_piece.specs.Pieces.{PieceRecord}
 use Rattle.bk_fixup.specs.Sizes.{AreLeastSizes}
 use Rattle.bk_rv_emit.specs.declared.lines.Line.{Line}
 use Rattle.bk_rv_emit.specs.Code.{Entry, branches_from, widths, places_from, words_from, waits_from, AreWritten, values_of, handed, left_behind, entry_of, frame_of, function_lines, start_of, IsPiece}

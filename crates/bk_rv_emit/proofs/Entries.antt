@@ -7,7 +7,7 @@ use Rattle.std.proofs.lemmas.List.{drop_all}
 use Rattle.std.proofs.lemmas.List.Concat.{flat_map-cons}
 use Rattle.std.proofs.lemmas.List.Folds.{find-append}
 use Rattle.bk_func.specs.Records.{ValueRecord, BlockRecord}
-use Rattle.bk_fixup.specs.declared.Handle.{Handle}
+use Rattle.bk_piece.specs.declared.Handle.{Handle}
 use Rattle.bk_rv_emit.specs.Code as spec
 use Rattle.bk_rv_emit.specs.Code.{handle_by, handed, left_behind, left_by, entry_of}
 use Rattle.bk_rv_emit.specs.Tables.{IsPut}

@@ -2,11 +2,11 @@
 use Rattle.std.specs.Prelude.{◌≡◌, ℕ, ◌+◌, ◌==◌, true, false, if◌then◌else◌, List, [], ◌∷◌, ◌++◌, length, map, flat_map, drop, slice_get, slice_index, Option, Some, None, is_some, unwrap_or}
 use Rattle.std.specs.List.{find}
 use Rattle.bk_func.specs.Records.{ValueRecord, FuncRecord, StepRecord, load, store, do_value, move, PlacedBlockRecord, PlacedRecord}
-use Rattle.bk_fixup.specs.declared.Handle.{Handle}
-use Rattle.bk_fixup.specs.declared.patches.Patch.{Patch}
+use Rattle.bk_piece.specs.declared.Handle.{Handle}
+use Rattle.bk_piece.specs.declared.Patch.{Patch}
 use Rattle.bk_fixup.specs.declared.sizes.Branch.{Branch}
 use Rattle.bk_fixup.specs.Keys.{key_of}
-use Rattle.bk_fixup.specs.Pieces.{PieceRecord}
+use Rattle.bk_piece.specs.Pieces.{PieceRecord}
 use Rattle.bk_fixup.specs.Sizes.{AreLeastSizes}
 use Rattle.bk_rv_emit.specs.declared.blocks.Frame.{Frame}
 use Rattle.bk_rv_emit.specs.declared.lines.Line.{Line}

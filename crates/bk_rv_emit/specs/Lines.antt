@@ -1,8 +1,8 @@
 -- Lines of code.
 use Rattle.std.specs.Prelude.{Option, Some, None}
 use Rattle.bk_rv_isa.specs.declared.inst.Inst.{Inst}
-use Rattle.bk_fixup.specs.declared.Handle.{Handle}
-use Rattle.bk_fixup.specs.declared.patches.Patch.{Patch}
+use Rattle.bk_piece.specs.declared.Handle.{Handle}
+use Rattle.bk_piece.specs.declared.Patch.{Patch}
 use Rattle.bk_rv_emit.specs.declared.lines.Line.{Line}
 use Rattle.bk_rv_emit.specs.declared.lines.Line.TheVariants as line
 

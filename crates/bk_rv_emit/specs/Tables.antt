@@ -3,7 +3,7 @@ use Rattle.std.specs.Prelude.{◌≡◌, ℕ, List, ◌++◌, length, drop, Opti
 use Rattle.std.specs.BTreeMap.{BTreeMap, get}
 use Rattle.std.specs.Option.{option_or}
 use Rattle.std.specs.Ordering.{nat_cmp}
-use Rattle.bk_fixup.specs.declared.Handle.{Handle}
+use Rattle.bk_piece.specs.declared.Handle.{Handle}
 use Rattle.bk_func.specs.Records.{ValueRecord, PlacedBlockRecord}
 use Rattle.bk_rv_emit.specs.declared.blocks.Frame.{Frame}
 use Rattle.bk_rv_emit.specs.declared.lines.Line.{Line}

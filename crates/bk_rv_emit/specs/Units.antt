@@ -19,8 +19,8 @@ use Rattle.bk_rv_isa.specs.declared.inst.StoreOp.TheVariants.{Sb, Sh, Sw, Sd}
 use Rattle.bk_rv_isa.specs.declared.inst.BranchOp.TheVariants.{Beq, Bne}
 use Rattle.bk_rv_isa.specs.declared.inst.Inst.{Inst}
 use Rattle.bk_rv_isa.specs.declared.inst.Inst.TheVariants as i
-use Rattle.bk_fixup.specs.declared.Handle.{Handle}
-use Rattle.bk_fixup.specs.declared.patches.Patch.TheVariants as patch
+use Rattle.bk_piece.specs.declared.Handle.{Handle}
+use Rattle.bk_piece.specs.declared.Patch.TheVariants as patch
 use Rattle.bk_rv_emit.specs.declared.lines.Line.{Line}
 use Rattle.bk_rv_emit.specs.declared.lines.Line.TheVariants as line
 use Rattle.bk_rv_emit.specs.declared.units.Regs.{Regs}

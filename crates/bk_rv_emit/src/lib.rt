@@ -10,5 +10,6 @@ mod units;
 mod words;
 mod written;
 
-pub use bk_fixup::{Handle, Memory, Patch, Piece};
+pub use bk_func::Memory;
+pub use bk_piece::{Handle, Patch, Piece};
 pub use pieces::emit;

@@ -2,7 +2,7 @@
 ghost use Rattle.std.specs.Prelude.{◌≡◌, ◌++◌, ◌∷◌, [], map, OnOk};
 ghost use Rattle.bk_rv_emit.specs.Lines.{opening};
 
-use bk_fixup::{Handle, Patch};
+use bk_piece::{Handle, Patch};
 use bk_rv_isa::{BranchOp, Inst};
 use std::alloc::AllocError;
 

@@ -7,8 +7,8 @@ use crate::blocks::Frame;
 use crate::layout::{Lines, places_of, widths_of};
 use crate::table::Table;
 use crate::written::{code_of, handles_of};
-use bk_fixup::{Handle, Memory, Piece};
-use bk_func::{Func, Placed};
+use bk_func::{Func, Memory, Placed};
+use bk_piece::{Handle, Piece};
 use std::alloc::{AllocError, Global};
 
 /// The code of a function whose values have places, in a frame of so many bytes.

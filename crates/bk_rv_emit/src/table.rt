@@ -4,8 +4,9 @@ ghost use Rattle.std.specs.Option.{option_or};
 ghost use Rattle.bk_rv_emit.specs.Code.{handle_by, left_by, handed, left_behind, entry_of, values_of};
 ghost use Rattle.bk_rv_emit.specs.Tables.{look, seen};
 
-use bk_fixup::{Handle, key_of};
+use bk_fixup::key_of;
 use bk_func::{Block, Func, Value};
+use bk_piece::Handle;
 use std::alloc::{AllocError, Global};
 use std::collections::BTreeMap;
 

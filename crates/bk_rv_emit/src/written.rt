@@ -7,7 +7,7 @@ ghost use Rattle.bk_rv_emit.specs.Written as spec;
 use crate::layout::{Lines, next_place};
 use crate::lines::Line;
 use crate::units::{SCRATCH, lower, upper};
-use bk_fixup::{Handle, Patch};
+use bk_piece::{Handle, Patch};
 use bk_rv_isa::{BranchOp, Inst, encode};
 use std::alloc::{AllocError, Global};
 

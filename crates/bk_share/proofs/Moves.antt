@@ -12,7 +12,7 @@ use Rattle.atomic_table.specs.Table.{Seen as AsSeen}
 use Rattle.atomic_table.specs.declared.shared.Seat.{Seat}
 use Rattle.atomic_table.proofs.Lists.{at_set, at_snoc}
 use Rattle.bk_core.specs.Rule.{Sight, sight, worker, keys_of, cells_of, Rule}
-use Rattle.bk_core.specs.Events.{CoreState, core_state, drew, saw, taken, HasWalked, zeros, word_at, MeetsRule, after, CanHappen, IsAnnounced}
+use Rattle.bk_core.specs.Events.{CoreState, core_state, drew, saw, taken, HasWalked, zeros, word_at, MeetsRule}
 use Rattle.bk_core.specs.declared.events.Event.{Event}
 use Rattle.bk_core.specs.declared.events.Event.TheVariants.{Claim, Look, Take, Split, Join}
 use Rattle.bk_core.proofs.Keeps.{rule_starts, whole, all_drawn}
@@ -24,9 +24,9 @@ use Rattle.bk_share.specs.declared.shares.Pass.{Pass}
 use Rattle.bk_share.specs.Passes.{IsPassOf, IsLast}
 use Rattle.bk_share.specs.Plan.{Scheme, base, areas_in}
 use Rattle.bk_share.specs.Law.{seen, view_of, TableState, core_of, Lawful, Seated, IsSound, Draws, Looks, Takes, left, right, merged, spent}
-use Rattle.bk_share.specs.Steps.{after_claim, after_look, after_take, after_split, after_join}
+use Rattle.bk_share.specs.Steps.{after_claim, after_look, after_take, after_split, after_join, IsSeat, IsEvent}
 use Rattle.bk_share.proofs.Cells.{base_above, base_grows, in_table, apart, word_of_piece, length_of_piece, word_is, sizes_are}
-use Rattle.bk_share.proofs.Steps.{found, was_there, claim_is, look_is, take_is, split_is, join_is}
+use Rattle.bk_share.proofs.Steps.{found, was_there, claim_event, look_event, take_event, split_event, join_event}
 
 module _ (p : Scheme) (s : TableState) (h : Lawful p s) (id : ℕ) (v : Seen) (at : get_elem? s.views id ≡ some v) where
   abbrev Vs : List Sight
@@ -38,15 +38,14 @@ module _ (p : Scheme) (s : TableState) (h : Lawful p s) (id : ℕ) (v : Seen) (a
   mine : worker Vs id ≡ v.view
   mine = (found s.views id v at).1
 
-  has_part : v.view.parts ≢ 0 → (worker Vs id).parts ≢ 0
-  has_part has z = has (sym (ap (λ (u : Sight). u.parts) mine) ∙ z)
+  seated : v.view.parts ≢ 0 → IsSeat p s id v
+  seated has = (h.sized, at, has)
 
   -- an event keeps the rule
-  stands : (t : TableState) (e : Event) → length t.words ≡ length s.words → core_of p t ≡ after (core_of p s) e → CanHappen (core_of p s) e → IsAnnounced p.announced e
-      → ((j : ℕ) (u : Seen) → get_elem? t.views j ≡ some u → u.view.parts ≢ 0 → u.plan ≡ p) → Lawful p t
-  stands t e size is can ann planned = record {
+  stands : (t : TableState) (e : Event) → length t.words ≡ length s.words → IsEvent p s e t → ((j : ℕ) (u : Seen) → get_elem? t.views j ≡ some u → u.view.parts ≢ 0 → u.plan ≡ p) → Lawful p t
+  stands t e size event planned = record {
     sized = size ∙ h.sized;
-    rule = subst (MeetsRule p.announced p.parts) (sym is) (keeps_rule p.announced p.parts (core_of p s) h.rule e can ann);
+    rule = subst (MeetsRule p.announced p.parts) (sym event.is) (keeps_rule p.announced p.parts (core_of p s) h.rule e event.can event.announced);
     planned = planned;
   }
 
@@ -75,8 +74,8 @@ claims p slots id me has s h _ at _ =
       w,
       keeps,
       tt,
-      stands p s h id me.0 at (after_claim s id me.0) (Claim id) (length-set s.words 0 ((n + 1) % 2 ^ 64)) (claim_is p s h.sized id me.0 at)
-          (here p s h id me.0 at, has_part p s h id me.0 at has) tt (planned_set p s h id me.0 at w (λ _. h.planned id me.0 at has)),
+      stands p s h id me.0 at (after_claim s id me.0) (Claim id) (length-set s.words 0 ((n + 1) % 2 ^ 64)) (claim_event p s id me.0 (seated p s h id me.0 at has))
+          (planned_set p s h id me.0 at w (λ _. h.planned id me.0 at has)),
       refl,
     )
 
@@ -91,9 +90,8 @@ pub looking : (slots id : ℕ) (me : Seated) (a c : ℕ) → me.0.view.parts ≢
 looking slots id me a c has ha hc s h _ at _ =
     let p = me.0.plan in let i = base p.announced a + c in let n = get_or s.words i 0 in
     let w = seen p (saw me.0.view a c n) in
-    let size = sizes_are p.announced s.words h.sized a ha in
-    let law = stands p s h id me.0 at (after_look p s id me.0 a c) (Look id a c) (length-set s.words i n) (look_is p s h.sized id me.0 at a c ha hc)
-    (((here p s h id me.0 at, has_part p s h id me.0 at has), ha, subst (λ (k : ℕ). c < k) (sym size) hc)) tt (planned_set p s h id me.0 at w (λ _. refl)) in (
+    let law = stands p s h id me.0 at (after_look p s id me.0 a c) (Look id a c) (length-set s.words i n) (look_event p s id me.0 (seated p s h id me.0 at has) a c ha hc)
+    (planned_set p s h id me.0 at w (λ _. refl)) in (
       w,
       keeps,
       tt,
@@ -114,11 +112,9 @@ pub taking : (slots id : ℕ) (me : Seated) (a c k : ℕ) → me.0.view.parts �
 taking slots id me a c k has ha hc some_key ann way s h _ at _ =
     let p = me.0.plan in let i = base p.announced a + c in let n = get_or s.words i 0 in
     let w = seen p (saw me.0.view a c (taken n k)) in
-    let size = sizes_are p.announced s.words h.sized a ha in
     let is : either (eqb n 0) k n ≡ taken n k = either_taken n k (eqb n 0) in
-    let walked = subst (λ (q : Sight × ℕ). HasWalked q.0.known q.1 a c k) (λ j. (sym (mine p s h id me.0 at) j, sym size j)) way in
-    let law = stands p s h id me.0 at (after_take p s id me.0 a c k) (Take id a c k) (length-set s.words i (taken n k)) (take_is p s h.sized id me.0 at a c k ha hc)
-    (((here p s h id me.0 at, has_part p s h id me.0 at has), ha, subst (λ (j : ℕ). c < j) (sym size) hc), some_key, walked) ann (planned_set p s h id me.0 at w (λ _. refl)) in (
+    let law = stands p s h id me.0 at (after_take p s id me.0 a c k) (Take id a c k) (length-set s.words i (taken n k))
+    (take_event p s id me.0 (seated p s h id me.0 at has) a c k ha hc some_key ann way) (planned_set p s h id me.0 at w (λ _. refl)) in (
       w,
       keeps,
       tt,
@@ -132,8 +128,7 @@ taking slots id me a c k has ha hc some_key ann way s h _ at _ =
 pub cuts : (id : ℕ) (v : Seen) → 1 < v.view.parts → Splits (Lawful v.plan) id v (left v) (right v)
 cuts id v has s h at =
     let p = v.plan in
-    stands p s h id v at (after_split s id v) (Split id) refl (split_is p s h.sized id v at)
-    (here p s h id v at, let e = ap (λ (u : Sight). u.parts) (mine p s h id v at) in omega arith) tt
+    stands p s h id v at (after_split s id v) (Split id) refl (split_event p s id v (seated p s h id v at (λ z. absurd (omega arith))) has)
     (λ j u e. ⊎_elim
     (λ was. planned_set p s h id v at (left v) (λ _. refl) j u was)
     (λ (same : right v ≡ u). subst (λ (x : Seen). x.view.parts ≢ 0 → x.plan ≡ p) same (λ _. refl))
@@ -142,8 +137,7 @@ cuts id v has s h at =
 pub merges : (id : ℕ) (v : Seen) (other : ℕ) (w : Seen) → v.view.parts ≢ 0 → w.view.parts ≢ 0 → Joins (Lawful v.plan) id v other w (merged v w) spent
 merges id v other w has others s h at ne there =
     let p = v.plan in let was = was_there s.views id other (merged v w) w ne there in
-    stands p s h id v at (after_join s id v other w) (Join other id) refl (join_is p s h.sized id v at other w was)
-    ((here p s h other w was, has_part p s h other w was others), (here p s h id v at, has_part p s h id v at has), ne) tt
+    stands p s h id v at (after_join s id v other w) (Join other id) refl (join_event p s id v (seated p s h id v at has) other w (seated p s h other w was others) ne)
     (λ j u e. ⊎_elim
     (λ (x : (j ≡ other) × (spent ≡ u)). subst (λ (y : Seen). y.view.parts ≢ 0 → y.plan ≡ p) x.1 (λ part. absurd (part refl)))
     (λ (x : (j ≢ other) × (get_elem? (set s.views id (merged v w)) j ≡ some u)). planned_set p s h id v at (merged v w) (λ _. refl) j u x.1)

@@ -1,18 +1,19 @@
 -- Each atomic step of the table is one event of its core.
-use Rattle.std.proofs.Common.{◌≡◌, ◌≢◌, ⊎_elim, ℕ, zero, suc, ◌+◌, ◌%◌, ◌^◌, ◌<◌, ◌≤◌, List, [], ◌∷◌, ◌++◌, map, length, set, get_or, sym, ap, ◌∙◌, arith, get_or-set_same, get_or-set_other}
+use Rattle.std.proofs.Common.{◌≡◌, ◌≢◌, ⊎_elim, ℕ, zero, suc, ◌+◌, ◌%◌, ◌^◌, ◌<◌, ◌≤◌, List, [], ◌∷◌, ◌++◌, map, length, set, get_or, sym, ap, subst, ◌∙◌, arith, get_or-set_same, get_or-set_other}
 use Rattle.std.proofs.lemmas.List.{set-get_or, map-set}
 use mathlib.Core.Option.{some, some-injective, some-ne-none}
 use mathlib.Core.List.{map-append}
 use lib.ListN.{get_elem?}
 use Rattle.atomic_table.proofs.Lists.{at_set}
-use Rattle.bk_core.specs.Rule.{Sight, sight, nobody, worker, cells_of}
-use Rattle.bk_core.specs.Events.{core_state, drew, saw, both, less, taken, after, word_at, with_word}
+use Rattle.std.specs.List.{Contains}
+use Rattle.bk_core.specs.Rule.{Sight, sight, nobody, worker, keys_of, cells_of}
+use Rattle.bk_core.specs.Events.{core_state, drew, saw, both, less, taken, after, word_at, with_word, IsAtWork, CanLook, HasWalked}
 use Rattle.bk_core.specs.declared.events.Event.TheVariants.{Claim, Look, Take, Split, Join}
 use Rattle.bk_share.specs.declared.rules.Seen.{Seen}
 use Rattle.bk_share.specs.Plan.{Scheme, base, areas_in}
 use Rattle.bk_share.specs.Law.{seen, view_of, TableState, core_of, left, right, merged, spent}
-use Rattle.bk_share.specs.Steps.{after_claim, after_look, after_take, after_split, after_join}
-use Rattle.bk_share.proofs.Cells.{base_above, word_is, claims_apart, written}
+use Rattle.bk_share.specs.Steps.{after_claim, after_look, after_take, after_split, after_join, IsSeat, IsEvent}
+use Rattle.bk_share.proofs.Cells.{base_above, sizes_are, word_is, claims_apart, written}
 
 -- a seat's view is a worker of the core
 pub found : (l : List Seen) (i : ℕ) (v : Seen) → get_elem? l i ≡ some v → (i < length (map view_of l)) × (worker (map view_of l) i ≡ v.view)
@@ -75,3 +76,36 @@ module _ (p : Scheme) (s : TableState) (sized : length s.words ≡ base p.announ
       let views : map view_of (set (set s.views id (merged v w)) other spent) ≡ set (set Vs id (both (worker Vs id) (worker Vs other))) other nobody =
       map-set view_of (set s.views id (merged v w)) other spent ∙ ap (λ (l : List Sight). set l other nobody) (map-set view_of s.views id (merged v w) ∙ ap (λ (q : Sight × Sight). set Vs id (both q.0 q.1)) (λ k. (sym mine k, sym its k))) in
       λ k. core_state (get_or s.words 0 0) (areas_in p.announced s.words) (views k)
+
+-- a seat with a part is a worker at work
+pub at_work : (p : Scheme) (s : TableState) (id : ℕ) (v : Seen) → get_elem? s.views id ≡ some v → v.view.parts ≢ 0 → IsAtWork (core_of p s) id
+at_work p s id v at has = let f = found s.views id v at in (f.0, λ z. has (sym (ap (λ (u : Sight). u.parts) f.1) ∙ z))
+
+-- each kind of step is an event whose conditions hold
+module _ (p : Scheme) (s : TableState) (id : ℕ) (v : Seen) (seat : IsSeat p s id v) where
+  working : IsAtWork (core_of p s) id
+  working = at_work p s id v seat.1 seat.2
+
+  may_look : (a c : ℕ) → a < 3 → c < cells_of p.announced a → CanLook (core_of p s) id a c
+  may_look a c ha hc = (working, ha, subst (λ (k : ℕ). c < k) (sym (sizes_are p.announced s.words seat.0 a ha)) hc)
+
+  pub claim_event : IsEvent p s (Claim id) (after_claim s id v)
+  claim_event = record { can = working; announced = tt; is = claim_is p s seat.0 id v seat.1 }
+
+  pub look_event : (a c : ℕ) → a < 3 → c < cells_of p.announced a → IsEvent p s (Look id a c) (after_look p s id v a c)
+  look_event a c ha hc = record { can = may_look a c ha hc; announced = tt; is = look_is p s seat.0 id v seat.1 a c ha hc }
+
+  pub take_event : (a c key : ℕ) → a < 3 → c < cells_of p.announced a → key ≢ 0 → Contains (keys_of p.announced a) key → HasWalked v.view.known (cells_of p.announced a) a c key
+      → IsEvent p s (Take id a c key) (after_take p s id v a c key)
+  take_event a c key ha hc some_key ann way =
+      let size = sizes_are p.announced s.words seat.0 a ha in let mine = (found s.views id v seat.1).1 in record {
+        can = (may_look a c ha hc, some_key, subst (λ (q : Sight × ℕ). HasWalked q.0.known q.1 a c key) (λ j. (sym mine j, sym size j)) way);
+        announced = ann;
+        is = take_is p s seat.0 id v seat.1 a c key ha hc;
+      }
+
+  pub split_event : 1 < v.view.parts → IsEvent p s (Split id) (after_split s id v)
+  split_event more = let f = found s.views id v seat.1 in let e = ap (λ (u : Sight). u.parts) f.1 in record { can = (f.0, omega arith); announced = tt; is = split_is p s seat.0 id v seat.1 }
+
+  pub join_event : (other : ℕ) (w : Seen) → IsSeat p s other w → other ≢ id → IsEvent p s (Join other id) (after_join s id v other w)
+  join_event other w its ne = record { can = (at_work p s other w its.1 its.2, working, ne); announced = tt; is = join_is p s seat.0 id v seat.1 other w its.1 }

@@ -1,16 +1,24 @@
 -- The table after each kind of atomic step of the seat `id`, whose view is v.
-use Rattle.std.specs.Prelude.{◌≡◌, ℕ, ◌+◌, ◌%◌, ◌^◌, [], ◌∷◌, ◌++◌, length, slice_index, slice_set}
+use Rattle.std.specs.Prelude.{◌≡◌, ◌≢◌, ℕ, ◌+◌, ◌%◌, ◌^◌, [], ◌∷◌, ◌++◌, length, slice_index, slice_set}
 use mathlib.Core.Option.{some}
 use lib.ListN.{get_elem?}
 use Rattle.atomic_table.specs.Table.{stepped, keeps}
-use Rattle.bk_core.specs.Events.{drew, saw, taken}
+use Rattle.bk_core.specs.Events.{drew, saw, taken, after, CanHappen, IsAnnounced}
+use Rattle.bk_core.specs.declared.events.Event.{Event}
 use Rattle.bk_share.specs.declared.rules.Seen.{Seen}
 use Rattle.bk_share.specs.Plan.{Scheme, base}
-use Rattle.bk_share.specs.Law.{TableState, seen, left, right, merged, spent}
+use Rattle.bk_share.specs.Law.{TableState, core_of, seen, left, right, merged, spent}
 
--- the table has the words of the plan, and the seat is there with this view
+-- the table has the words of the plan, and the seat is there with this view, which has a part
 abbrev pub IsSeat : Scheme → TableState → ℕ → Seen → Type 0
-IsSeat p s id v = (length s.words ≡ base p.announced 3) × (get_elem? s.views id ≡ some v)
+IsSeat p s id v = (length s.words ≡ base p.announced 3) × (get_elem? s.views id ≡ some v) × (v.view.parts ≢ 0)
+
+-- from the table s to the table t one event happened to the core: its conditions held, a take's key was announced, and the core
+-- is the one after it
+pub record IsEvent (p : Scheme) (s : TableState) (e : Event) (t : TableState) : Type 0 where
+  pub can : CanHappen (core_of p s) e
+  pub announced : IsAnnounced p.announced e
+  pub is : core_of p t ≡ after (core_of p s) e
 
 -- one is added to word 0, and the old word is drawn
 abbrev pub after_claim : TableState → ℕ → Seen → TableState

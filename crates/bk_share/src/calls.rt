@@ -9,7 +9,7 @@ ghost use Rattle.bk_share.specs.Passes.{IsPassOf, view, announced_in, count_in, 
 
 use crate::rules::{Drawing, Looking, OnePart, Taking, Together};
 use crate::shares::{Pass, Share};
-use bk_fixup::Handle;
+use bk_piece::Handle;
 
 impl Share {
     /// Gives one part of the pass to a new pass, which has no numbers and no known pairs.

@@ -4,7 +4,7 @@ ghost use Rattle.bk_core.specs.Rule.{keys_of};
 ghost use Rattle.bk_share.specs.Passes.{IsPassOf, view, announced_in};
 
 use crate::{Pass, Share};
-use bk_fixup::Handle;
+use bk_piece::Handle;
 use std::test::Fail;
 use std::thread;
 use std::thread::Threads;

@@ -1,7 +1,7 @@
 -- What contracts see of a piece.
 use Rattle.std.specs.Prelude.{ℕ, List}
-use Rattle.bk_fixup.specs.declared.Handle.{Handle}
-use Rattle.bk_fixup.specs.declared.patches.Patch.{Patch}
+use Rattle.bk_piece.specs.declared.Handle.{Handle}
+use Rattle.bk_piece.specs.declared.Patch.{Patch}
 
 -- a piece: its words, what is patched and for which key, the types of its signature, and the bytes of its frame
 pub record PieceRecord : Type 0 where
