@@ -32,6 +32,7 @@ type_key t = option_map (key_in 1) (code_of t)
 -- the values that have a key: addresses, calls, and on riscv64 constants
 unfoldable pub op_key : Family → Aux → ℤ → Option Key
 op_key op.Call a c = symbol_key a
+op_key op.CallRegs a c = symbol_key a
 op_key (op.Arm arm.Addr) a c = symbol_key a
 op_key (op.Rv rv.Addr) a c = symbol_key a
 op_key (op.Rv rv.Const) a c = constant_key c

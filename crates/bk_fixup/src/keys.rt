@@ -63,7 +63,8 @@ pub fn key_of(value: &Value) -> Option<Key>
     ensures { result ≡ key_of value.now }
 {
     match value.op.family {
-        Family::Call | Family::Arm(ArmOp::Addr) | Family::Rv(RvOp::Addr) => symbol_key(value.aux),
+        Family::Call | Family::CallRegs | Family::Arm(ArmOp::Addr) | Family::Rv(RvOp::Addr) =>
+            symbol_key(value.aux),
         Family::Rv(RvOp::Const) => constant_key(value.int),
         _ => None,
     }

@@ -1,8 +1,7 @@
 -- The code of the steps and the ends of blocks, in a frame.
-use Rattle.std.specs.Prelude.{ℕ, ℤ, pos, neg_ℤ, ◌+◌, ◌*◌, ◌-ℤ◌, ◌==◌, if◌then◌else◌, List, [], ◌∷◌, map, Option, Some, None, unwrap_or, slice_get}
+use Rattle.std.specs.Prelude.{ℕ, pos, neg_ℤ, ◌+◌, ◌-◌, ◌*◌, ◌==◌, Bool, nat_le, if◌then◌else◌, List, [], ◌∷◌, ◌++◌, map, Option, Some, None, unwrap_or, slice_get}
 use Rattle.bk_rv_isa.specs.declared.inst.ImmediateOp.TheVariants.{Addi, Andi}
-use Rattle.bk_rv_isa.specs.declared.inst.LoadOp.TheVariants.{Ld}
-use Rattle.bk_rv_isa.specs.declared.inst.StoreOp.TheVariants.{Sd}
+use Rattle.bk_rv_isa.specs.declared.inst.RegisterOp.TheVariants.{Add, Sub}
 use Rattle.bk_rv_isa.specs.declared.inst.BranchOp.TheVariants.{Beq, Bne, Bgeu}
 use Rattle.bk_rv_isa.specs.declared.inst.Inst.{Inst}
 use Rattle.bk_rv_isa.specs.declared.inst.Inst.TheVariants as i
@@ -17,32 +16,47 @@ use Rattle.bk_rv_emit.specs.declared.units.Regs.{Regs}
 use Rattle.bk_rv_emit.specs.declared.blocks.Frame.{Frame}
 use Rattle.bk_rv_emit.specs.declared.blocks.Spot.{Spot}
 use Rattle.bk_rv_emit.specs.declared.blocks.Spot.TheVariants.{Register, Word}
+use Rattle.bk_rv_emit.specs.Numbers.{upper, lower}
 use Rattle.bk_rv_emit.specs.Units.{trap}
+use Rattle.bk_rv_emit.specs.Words.{load_by, store_by, load_at, store_at}
+
+-- the frame's bytes in x31
+abbrev pub frame_bytes : ℕ → List Inst
+frame_bytes f = i.Lui 31 (upper (pos f)) ∷ i.OpImm Addi 31 31 (lower (pos f)) ∷ []
+
+-- a frame whose bytes one instruction adds and takes away
+abbrev pub is_short : ℕ → Bool
+is_short f = nat_le f 2040
+
+-- x31 is where the stack pointer goes
+abbrev pub below : ℕ → List Inst
+below f = if is_short f then i.OpImm Addi 31 2 (neg_ℤ (pos f)) ∷ [] else frame_bytes f ++ i.Op Sub 31 2 31 ∷ []
+
+-- trap 5 where the stack pointer would go below the bound, else it goes there
+abbrev pub guard : List Inst
+guard = i.Branch Bgeu 31 27 (pos 12) ∷ i.OpImm Addi 31 0 (pos 5) ∷ i.Ebreak ∷ i.OpImm Addi 2 31 (pos 0) ∷ []
 
 -- trap 5 where the frame exceeds the stack that is left, else the frame is made and the return address saved
 abbrev pub entry : ℕ → List Inst
-entry f =
-    i.OpImm Addi 31 2 (neg_ℤ (pos f))
-    ∷ i.Branch Bgeu 31 27 (pos 12)
-    ∷ i.OpImm Addi 31 0 (pos 5)
-    ∷ i.Ebreak
-    ∷ i.OpImm Addi 2 31 (pos 0)
-    ∷ i.Store Sd 1 2 (pos f -ℤ pos 8)
-    ∷ []
+entry f = below f ++ (guard ++ store_by 31 1 (f - 8))
+
+-- the frame is given back
+abbrev pub above : ℕ → List Inst
+above f = if is_short f then i.OpImm Addi 2 2 (pos f) ∷ [] else frame_bytes f ++ i.Op Add 2 2 31 ∷ []
 
 -- the return address is loaded, the frame given back, and the function returns
 abbrev pub leave : ℕ → List Inst
-leave f = i.Load Ld 1 2 (pos f -ℤ pos 8) ∷ i.OpImm Addi 2 2 (pos f) ∷ i.Jalr 0 1 (pos 0) ∷ []
+leave f = load_by 31 1 (f - 8) ++ (above f ++ i.Jalr 0 1 (pos 0) ∷ [])
 
 -- slots stand behind the words of calls
-abbrev pub slot_offset : Frame → ℕ → ℤ
-slot_offset f n = pos (8 * (f.out + n))
+abbrev pub slot_offset : Frame → ℕ → ℕ
+slot_offset f n = 8 * (f.out + n)
 
-abbrev pub load_slot : Frame → ℕ → ℕ → Inst
-load_slot f reg n = i.Load Ld reg 2 (slot_offset f n)
+abbrev pub load_slot : Frame → ℕ → ℕ → List Inst
+load_slot f reg n = load_at reg (slot_offset f n)
 
-abbrev pub store_slot : Frame → ℕ → ℕ → Inst
-store_slot f reg n = i.Store Sd reg 2 (slot_offset f n)
+abbrev pub store_slot : Frame → ℕ → ℕ → List Inst
+store_slot f reg n = store_at reg (slot_offset f n)
 
 -- where a value is: the word for exchanges stands behind the slots
 abbrev pub spot_of : Frame → Loc → Spot
@@ -52,9 +66,9 @@ spot_of f Swap = Word f.slots
 
 abbrev pub move_by : Frame → Spot → Spot → List Inst
 move_by f (Register a) (Register d) = i.OpImm Addi d a (pos 0) ∷ []
-move_by f (Word a) (Register d) = load_slot f d a ∷ []
-move_by f (Register a) (Word d) = store_slot f a d ∷ []
-move_by f (Word a) (Word d) = load_slot f 31 a ∷ store_slot f 31 d ∷ []
+move_by f (Word a) (Register d) = load_slot f d a
+move_by f (Register a) (Word d) = store_slot f a d
+move_by f (Word a) (Word d) = load_slot f 31 a ++ store_slot f 31 d
 
 -- a move of an edge; from word to word it goes through x31
 abbrev pub move_unit : Frame → Loc → Loc → List Inst

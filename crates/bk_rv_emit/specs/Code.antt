@@ -50,8 +50,8 @@ value_lines f r (Some e) = unit e.0.op r e.0.int e.1 f.bytes
 
 -- the lines of a step
 abbrev pub step_lines : Frame → (ℕ → Option Entry) → StepRecord → List Line
-step_lines f es (load reg slot) = line.Inst (load_slot f reg slot) ∷ []
-step_lines f es (store reg slot) = line.Inst (store_slot f reg slot) ∷ []
+step_lines f es (load reg slot) = map line.Inst (load_slot f reg slot)
+step_lines f es (store reg slot) = map line.Inst (store_slot f reg slot)
 step_lines f es (do_value value args place) = value_lines f (regs_of args place) (es value)
 step_lines f es (move source destination) = map line.Inst (move_unit f source destination)
 
@@ -78,7 +78,7 @@ start_from f es n [] at = 0
 start_from f es n (b ∷ bs) at = if b.id == n then at else start_from f es n bs (at + length (block_lines f es b (first_id bs)))
 
 abbrev pub start_of : Frame → (ℕ → Option Entry) → List PlacedBlockRecord → ℕ → ℕ
-start_of f es bs n = start_from f es n bs 6
+start_of f es bs n = start_from f es n bs (length (entry f.bytes))
 
 -- a line that is a branch or a jump
 abbrev pub to_branch : (ℕ → ℕ) → ℕ → Line → List Branch

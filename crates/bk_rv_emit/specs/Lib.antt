@@ -1,6 +1,8 @@
 pub mod Blocks
 pub mod Code
 pub mod Lines
+pub mod Numbers
 pub mod Tables
 pub mod Units
+pub mod Words
 pub mod Written

@@ -1,6 +1,6 @@
 -- The instructions of each op: one row for each, d being the result, a, b and c the arguments, and x31 free.
 use Rattle.std.specs.Prelude.{ℕ, zero, suc, ℤ, pos, negsuc, ◌+◌, ◌*◌, ◌/◌, ◌%◌, ◌^◌, min, Bool, true, false, nat_le, ◌==◌, if◌then◌else◌, List, [], ◌∷◌, ◌++◌, map, Option, Some, None, option_map}
-use Rattle.bk_num.specs.Word.{signed, residue, fits_signed}
+use Rattle.bk_num.specs.Word.{fits_signed}
 use Rattle.bk_ops.specs.declared.family.Family.{Family}
 use Rattle.bk_ops.specs.declared.family.Family.TheVariants as op
 use Rattle.bk_ops.specs.declared.family.RvOp.{RvOp}
@@ -25,18 +25,8 @@ use Rattle.bk_rv_emit.specs.declared.lines.Line.{Line}
 use Rattle.bk_rv_emit.specs.declared.lines.Line.TheVariants as line
 use Rattle.bk_rv_emit.specs.declared.units.Regs.{Regs}
 use Rattle.bk_rv_emit.specs.Lines.{opening}
-
--- a number, at most m, which stands for those that are above it or negative
-abbrev pub capped : ℕ → ℤ → ℕ
-capped m (pos n) = min n m
-capped m (negsuc n) = m
-
--- the two immediates of LUI or AUIPC and of the instruction behind it that make a number of 32 bits
-abbrev pub upper : ℤ → ℤ
-upper z = signed 20 ((residue 32 z + 2048) / 2 ^ 12)
-
-abbrev pub lower : ℤ → ℤ
-lower z = signed 12 (residue 32 z)
+use Rattle.bk_rv_emit.specs.Numbers.{capped, upper, lower}
+use Rattle.bk_rv_emit.specs.Words.{load_at, store_at}
 
 -- the row of three registers with the name of the op
 unfoldable pub register_op : RvOp → Option RegisterOp
@@ -185,25 +175,20 @@ abbrev pub trap : ℤ → List Line
 trap n = line.Inst (i.OpImm Addi 31 0 n) ∷ line.Inst i.Ebreak ∷ []
 
 -- the offset of the word with this number behind an offset from the stack pointer
-abbrev pub word_offset : ℕ → ℤ → ℤ
-word_offset base w = pos (base + 8 * capped (2 ^ 32) w)
+abbrev pub word_offset : ℕ → ℤ → ℕ
+word_offset base w = base + 8 * capped (2 ^ 32) w
 
-abbrev pub load_word : ℕ → ℕ → ℤ → Inst
-load_word reg base w = i.Load Ld reg 2 (word_offset base w)
-
-abbrev pub store_word : ℕ → ℕ → ℤ → Inst
-store_word reg base w = i.Store Sd reg 2 (word_offset base w)
-
--- the unit of an op by its row, in a frame of so many bytes; phis and the first state have none
+-- the unit of an op by its row, in a frame of so many bytes; phis, the first state and words in registers have none
 unfoldable pub family_unit : Family → ℕ → Regs → ℤ → Option Handle → ℕ → List Line
 family_unit (op.Rv rv.Const) w r c h f = const_unit r.d c h
 family_unit (op.Rv rv.Addr) w r c h f = addr_unit r.d h
 family_unit (op.Rv o) w r c h f = map line.Inst (machine_unit o w r c)
-family_unit op.ArgWord w r c h f = line.Inst (load_word r.d f c) ∷ []
-family_unit op.RetWord w r c h f = line.Inst (store_word r.a f c) ∷ []
-family_unit op.ResWord w r c h f = line.Inst (load_word r.d 0 c) ∷ []
-family_unit op.OutWord w r c h f = line.Inst (store_word r.a 0 c) ∷ []
+family_unit op.ArgWord w r c h f = map line.Inst (load_at r.d (word_offset f c))
+family_unit op.RetWord w r c h f = map line.Inst (store_at r.a (word_offset f c))
+family_unit op.ResWord w r c h f = map line.Inst (load_at r.d (word_offset 0 c))
+family_unit op.OutWord w r c h f = map line.Inst (store_at r.a (word_offset 0 c))
 family_unit op.Call w r c h f = call_unit h
+family_unit op.CallRegs w r c h f = call_unit h
 family_unit op.Trap w r c h f = trap c
 family_unit _ w r c h f = []
 

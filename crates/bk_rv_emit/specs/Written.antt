@@ -5,7 +5,7 @@ use Rattle.bk_rv_isa.specs.declared.inst.BranchOp.TheVariants.{Beq, Bne, Blt, Bg
 use Rattle.bk_rv_isa.specs.declared.inst.Inst.{Inst}
 use Rattle.bk_rv_isa.specs.declared.inst.Inst.TheVariants as i
 use Rattle.bk_rv_isa.specs.Encoding.{encoding}
-use Rattle.bk_rv_emit.specs.Units.{upper, lower}
+use Rattle.bk_rv_emit.specs.Numbers.{upper, lower}
 
 -- the word of an instruction, 0 where a field does not fit
 unfoldable pub word_of : Inst → ℕ

@@ -1,5 +1,5 @@
 // The code of the steps and the ends of blocks.
-ghost use Rattle.std.specs.Prelude.{◌≡◌, ◌++◌, ◌∷◌, [], map, flat_map, option_map, OnOk};
+ghost use Rattle.std.specs.Prelude.{◌≡◌, ◌++◌, ◌∷◌, [], ◌-◌, ◌≤◌, ◌^◌, map, flat_map, option_map, OnOk};
 ghost use Rattle.bk_func.specs.Steps.{seen_step};
 ghost use Rattle.bk_rv_emit.specs.Blocks as spec;
 ghost use Rattle.bk_rv_emit.specs.Code.{value_lines, step_lines, block_lines};
@@ -7,11 +7,20 @@ ghost use Rattle.bk_rv_emit.specs.Tables.{look, seen};
 
 use crate::lines::{Line, put};
 use crate::table::Entry;
-use crate::units::{Regs, SCRATCH, STACK, put_trap, put_unit};
+use crate::units::{Regs, SCRATCH, STACK, lower, put_trap, put_unit, upper};
+use crate::words::{put_load, put_load_by, put_store, put_store_by};
 use bk_func::{Kind, Loc, PlacedBlock, Step};
-use bk_rv_isa::{BranchOp, ImmediateOp, Inst, LoadOp, StoreOp};
+use bk_rv_isa::{BranchOp, ImmediateOp, Inst, RegisterOp};
 use std::alloc::AllocError;
 use std::collections::BTreeMap;
+
+/// The register of the return address, and that of the bound of the stack.
+const RETURN: u8 = 1;
+
+const BOUND: u8 = 27;
+
+/// The most bytes of a frame that one instruction adds and takes away.
+const SHORT: u32 = 2040;
 
 /// A frame: its bytes, the words for the arguments and results of calls, and its slots behind them.
 #[derive(Clone, Copy)]
@@ -26,14 +35,47 @@ pub struct Frame {
 pub(crate) fn put_entry(lines: &mut Vec<Line>, frame: Frame) -> Result<(), AllocError>
     ensures { OnOk result (lines.new.items ≡ lines.old.items ++ map Line.Inst (spec.entry frame.bytes)) }
 {
-    let bytes = i64::from(frame.bytes);
+    put_below(lines, frame.bytes)?;
+    put_guard(lines)?;
+    put_store_by(lines, SCRATCH, RETURN, saved_offset(frame))
+}
+
+/// The offset of the word that keeps the return address.
+fn saved_offset(frame: Frame) -> u64
+    ensures value { result ≡ frame.bytes - 8 }
+    ensures bound { result ≤ 2 ^ 40 }
+{
+    u64::from(frame.bytes).saturating_sub(8)
+}
+
+/// Adds where the stack pointer goes.
+fn put_below(lines: &mut Vec<Line>, bytes: u32) -> Result<(), AllocError>
+    ensures { OnOk result (lines.new.items ≡ lines.old.items ++ map Line.Inst (spec.below bytes)) }
+{
+    let count = i64::from(bytes);
+    if bytes <= SHORT {
+        return put(
+            lines,
+            &[Inst::OpImm(ImmediateOp::Addi, SCRATCH, STACK, -count)],
+        );
+    }
     let insts = [
-        Inst::OpImm(ImmediateOp::Addi, SCRATCH, STACK, -bytes),
-        Inst::Branch(BranchOp::Bgeu, SCRATCH, 27, 12),
+        Inst::Lui(SCRATCH, upper(count)),
+        Inst::OpImm(ImmediateOp::Addi, SCRATCH, SCRATCH, lower(count)),
+        Inst::Op(RegisterOp::Sub, SCRATCH, STACK, SCRATCH),
+    ];
+    put(lines, &insts)
+}
+
+/// Adds trap 5 where the stack pointer would go below the bound, else it goes there.
+fn put_guard(lines: &mut Vec<Line>) -> Result<(), AllocError>
+    ensures { OnOk result (lines.new.items ≡ lines.old.items ++ map Line.Inst spec.guard) }
+{
+    let insts = [
+        Inst::Branch(BranchOp::Bgeu, SCRATCH, BOUND, 12),
         Inst::OpImm(ImmediateOp::Addi, SCRATCH, 0, 5),
         Inst::Ebreak,
         Inst::OpImm(ImmediateOp::Addi, STACK, SCRATCH, 0),
-        Inst::Store(StoreOp::Sd, 1, STACK, bytes - 8),
     ];
     put(lines, &insts)
 }
@@ -42,32 +84,36 @@ pub(crate) fn put_entry(lines: &mut Vec<Line>, frame: Frame) -> Result<(), Alloc
 fn put_return(lines: &mut Vec<Line>, frame: Frame) -> Result<(), AllocError>
     ensures { OnOk result (lines.new.items ≡ lines.old.items ++ map Line.Inst (spec.leave frame.bytes)) }
 {
-    let bytes = i64::from(frame.bytes);
+    put_load_by(lines, SCRATCH, RETURN, saved_offset(frame))?;
+    put_above(lines, frame.bytes)?;
+    put(lines, &[Inst::Jalr(0, RETURN, 0)])
+}
+
+/// Adds that the frame is given back.
+fn put_above(lines: &mut Vec<Line>, bytes: u32) -> Result<(), AllocError>
+    ensures { OnOk result (lines.new.items ≡ lines.old.items ++ map Line.Inst (spec.above bytes)) }
+{
+    let count = i64::from(bytes);
+    if bytes <= SHORT {
+        return put(
+            lines,
+            &[Inst::OpImm(ImmediateOp::Addi, STACK, STACK, count)],
+        );
+    }
     let insts = [
-        Inst::Load(LoadOp::Ld, 1, STACK, bytes - 8),
-        Inst::OpImm(ImmediateOp::Addi, STACK, STACK, bytes),
-        Inst::Jalr(0, 1, 0),
+        Inst::Lui(SCRATCH, upper(count)),
+        Inst::OpImm(ImmediateOp::Addi, SCRATCH, SCRATCH, lower(count)),
+        Inst::Op(RegisterOp::Add, STACK, STACK, SCRATCH),
     ];
     put(lines, &insts)
 }
 
 /// The offset of a slot: those begin behind the words of calls.
-fn slot_offset(frame: Frame, slot: u32) -> i64
-    ensures { result ≡ spec.slot_offset frame slot }
+fn slot_offset(frame: Frame, slot: u32) -> u64
+    ensures value { result ≡ spec.slot_offset frame slot }
+    ensures bound { result ≤ 2 ^ 40 }
 {
-    8 * (i64::from(frame.out) + i64::from(slot))
-}
-
-fn load_slot(frame: Frame, reg: u8, slot: u32) -> Inst
-    ensures { result ≡ spec.load_slot frame reg slot }
-{
-    Inst::Load(LoadOp::Ld, reg, STACK, slot_offset(frame, slot))
-}
-
-fn store_slot(frame: Frame, reg: u8, slot: u32) -> Inst
-    ensures { result ≡ spec.store_slot frame reg slot }
-{
-    Inst::Store(StoreOp::Sd, reg, STACK, slot_offset(frame, slot))
+    8 * (u64::from(frame.out) + u64::from(slot))
 }
 
 /// A register, or a word of the frame.
@@ -96,11 +142,11 @@ fn put_move(lines: &mut Vec<Line>, frame: Frame, from: Loc, to: Loc) -> Result<(
         (Spot::Register(a), Spot::Register(d)) => {
             put(lines, &[Inst::OpImm(ImmediateOp::Addi, d, a, 0)])
         }
-        (Spot::Word(a), Spot::Register(d)) => put(lines, &[load_slot(frame, d, a)]),
-        (Spot::Register(a), Spot::Word(d)) => put(lines, &[store_slot(frame, a, d)]),
+        (Spot::Word(a), Spot::Register(d)) => put_load(lines, d, slot_offset(frame, a)),
+        (Spot::Register(a), Spot::Word(d)) => put_store(lines, a, slot_offset(frame, d)),
         (Spot::Word(a), Spot::Word(d)) => {
-            let load = load_slot(frame, SCRATCH, a);
-            put(lines, &[load, store_slot(frame, SCRATCH, d)])
+            put_load(lines, SCRATCH, slot_offset(frame, a))?;
+            put_store(lines, SCRATCH, slot_offset(frame, d))
         }
     }
 }
@@ -147,8 +193,8 @@ fn put_step(
     ensures { OnOk result (lines.new.items ≡ lines.old.items ++ step_lines frame (look entries.now) (seen_step step.now)) }
 {
     match step {
-        Step::Load { reg, slot } => put(lines, &[load_slot(frame, *reg, *slot)]),
-        Step::Store { reg, slot } => put(lines, &[store_slot(frame, *reg, *slot)]),
+        Step::Load { reg, slot } => put_load(lines, *reg, slot_offset(frame, *slot)),
+        Step::Store { reg, slot } => put_store(lines, *reg, slot_offset(frame, *slot)),
         Step::Do {
             value,
             args,

@@ -7,6 +7,7 @@ mod lines;
 mod pieces;
 mod table;
 mod units;
+mod words;
 mod written;
 
 pub use bk_func::Memory;

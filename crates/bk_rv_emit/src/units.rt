@@ -1,8 +1,10 @@
 // The units of instructions of the ops.
 ghost use Rattle.std.specs.Prelude.{◌≡◌, ◌+◌, ◌*◌, ◌/◌, ◌%◌, ◌^◌, ◌<◌, ◌≤◌, ◌++◌, ◌∷◌, [], map, OnOk};
+ghost use Rattle.bk_rv_emit.specs.Numbers as numbers;
 ghost use Rattle.bk_rv_emit.specs.Units as spec;
 
 use crate::lines::{Line, put, put_open};
+use crate::words::{put_load, put_store};
 use bk_piece::{Handle, Patch};
 use bk_num::{residue, sext};
 use bk_ops::{Family, Op, RvOp};
@@ -40,11 +42,11 @@ pub(crate) fn put_unit(
         Family::Rv(RvOp::Const) => put_const(lines, regs.d, int, handle),
         Family::Rv(RvOp::Addr) => put_addr(lines, regs.d, handle),
         Family::Rv(machine) => put_machine(lines, machine, op.a, regs, int),
-        Family::ArgWord => put(lines, &[load_word(regs.d, frame, int)]),
-        Family::RetWord => put(lines, &[store_word(regs.a, frame, int)]),
-        Family::ResWord => put(lines, &[load_word(regs.d, 0, int)]),
-        Family::OutWord => put(lines, &[store_word(regs.a, 0, int)]),
-        Family::Call => put_call(lines, handle),
+        Family::ArgWord => put_load(lines, regs.d, word_offset(frame, int)),
+        Family::RetWord => put_store(lines, regs.a, word_offset(frame, int)),
+        Family::ResWord => put_load(lines, regs.d, word_offset(0, int)),
+        Family::OutWord => put_store(lines, regs.a, word_offset(0, int)),
+        Family::Call | Family::CallRegs => put_call(lines, handle),
         Family::Trap => put_trap(lines, int),
         _ => Ok(()),
     }
@@ -52,7 +54,7 @@ pub(crate) fn put_unit(
 
 /// A number, at most `most`, which stands for those that are above it or negative.
 fn capped(most: u64, int: i64) -> u64
-    ensures value { result ≡ spec.capped most int }
+    ensures value { result ≡ numbers.capped most int }
     ensures bound { result ≤ most }
 {
     if int < 0 || int.cast_unsigned() > most {
@@ -63,22 +65,11 @@ fn capped(most: u64, int: i64) -> u64
 }
 
 /// The offset of the word with this number behind an offset.
-fn word_offset(base: u32, int: i64) -> i64
-    ensures { result ≡ spec.word_offset base int }
+fn word_offset(base: u32, int: i64) -> u64
+    ensures value { result ≡ spec.word_offset base int }
+    ensures bound { result ≤ 2 ^ 40 }
 {
-    i64::from(base) + 8 * capped(0x1_0000_0000, int) as i64
-}
-
-fn load_word(reg: u8, base: u32, int: i64) -> Inst
-    ensures { result ≡ spec.load_word reg base int }
-{
-    Inst::Load(LoadOp::Ld, reg, STACK, word_offset(base, int))
-}
-
-fn store_word(reg: u8, base: u32, int: i64) -> Inst
-    ensures { result ≡ spec.store_word reg base int }
-{
-    Inst::Store(StoreOp::Sd, reg, STACK, word_offset(base, int))
+    u64::from(base) + 8 * capped(0x1_0000_0000, int)
 }
 
 /// Adds a trap with this number.
@@ -127,14 +118,14 @@ fn put_const(
 
 /// The immediate of LUI or AUIPC that with `lower` makes a number of 32 bits.
 pub(crate) fn upper(number: i64) -> i64
-    ensures { result ≡ spec.upper number }
+    ensures { result ≡ numbers.upper number }
 {
     sext(20, (residue(32, i128::from(number)) + 2048) / 0x1000)
 }
 
 /// The low 12 bits of a number, with their sign.
 pub(crate) fn lower(number: i64) -> i64
-    ensures { result ≡ spec.lower number }
+    ensures { result ≡ numbers.lower number }
 {
     sext(12, residue(32, i128::from(number)))
 }
