@@ -1,12 +1,12 @@
 -- Edges that are added one after the other.
-use Rattle.std.proofs.Common.{◌≡◌, ◌∙◌, sym, refl, ap, subst, ℕ, ◌+◌, ◌-◌, ◌<◌, ◌≤◌, ◌⊎◌, ◌↔◌, List, [], ◌∷◌, ◌++◌, length, get_or, set, take, replicate, Option, None, Some, inl, inr, ⊎_elim, arith}
+use Rattle.std.proofs.Common.{◌≡◌, ◌∙◌, sym, refl, ap, subst, ℕ, ◌+◌, ◌-◌, ◌<◌, ◌≤◌, ◌⊎◌, ◌↔◌, List, [], ◌∷◌, ◌++◌, length, get_or, set, take, inl, inr, ⊎_elim, arith}
 use Rattle.std.specs.List.{Contains}
 use Rattle.std.proofs.lemmas.Bool.{cases_eq, cases_lt, cases_order}
-use Rattle.std.proofs.lemmas.List.{get_or-set_other, get_or-set_same, get_or_past, get_or-replicate, length-set, length-replicate, take_all, take_more}
+use Rattle.std.proofs.lemmas.List.{get_or-set_other, get_or-set_same, get_or_past, length-set, take_all, take_more}
 use Rattle.std.proofs.lemmas.List.Elements.{Contains-append_left, Contains-get_or, Contains-push, Contains-push_cases}
 use Rattle.bk_form.specs.Arranged.{Adds, Follows, IsAsked, IsEnd, IsLastBefore}
 use Rattle.bk_form.specs.declared.order.Lists.{Lists}
-use Rattle.bk_form.specs.Search.{IsEdge, Path}
+use Rattle.bk_form.specs.Search.{IsEdge}
 use Rattle.bk_form.proofs.Members.{none_in}
 
 pub adds_none : (es : List (List ℕ)) (R : ℕ → ℕ → Type 0) → ((p q : ℕ) → ¬ R p q) → Adds es R es

@@ -1,26 +1,23 @@
 -- That the edges of groups and of what is taken are those of values that come right before others.
-use Rattle.std.proofs.Common.{◌≡◌, ◌≢◌, ◌∙◌, sym, refl, ap, subst, ℕ, zero, suc, ◌+◌, ◌-◌, ◌<◌, ◌≤◌, ◌⊎◌, ◌↔◌, List, [], length, get_or, replicate, Option, None, Some, inl, inr, ⊎_elim, arith}
+use Rattle.std.proofs.Common.{◌≡◌, ◌∙◌, sym, refl, ap, subst, ℕ, zero, suc, ◌+◌, ◌-◌, ◌<◌, ◌≤◌, ◌↔◌, List, [], length, get_or, replicate, Option, None, Some, inl, inr, ⊎_elim, arith}
 use Rattle.std.specs.List.{Contains, slice_get}
-use Rattle.std.proofs.lemmas.Bool.{cases_lt, cases_order}
+use Rattle.std.proofs.lemmas.Bool.{cases_lt}
 use Rattle.std.proofs.lemmas.List.{get_or_default, get_or_past, get_or-replicate, length-replicate}
 use Rattle.std.proofs.lemmas.List.Elements.{Contains-get_or}
-use Rattle.std.proofs.lemmas.Option.{none-some, same_Some, slice_get_within}
-use Rattle.bk_ops.specs.declared.family.Family.TheVariants.{Load, NilCheck, Arm, Rv}
+use Rattle.std.proofs.lemmas.Option.{same_Some, slice_get_within}
 use Rattle.bk_func.specs.Records.{ValueRecord, BlockRecord, FuncRecord}
 use Rattle.bk_func.specs.Form.States.{Names, IsState}
-use Rattle.bk_func.specs.Form.Before.{IsLoad, IsNilCheck, IsTakenBy, Needs, IsListed, Checks, ComesBefore, argument, state, checks, needed, unneeded, Precedes, right, onward as further}
+use Rattle.bk_func.specs.Form.Before.{IsLoad, IsNilCheck, Needs, Checks, ComesBefore, argument, state, checks, needed, unneeded, Precedes, right, onward as further}
 use Rattle.bk_form.specs.declared.order.Lists.{Lists}
 use Rattle.bk_form.specs.declared.order.Role.TheVariants.{Check, Load as Loading, User}
 use Rattle.bk_form.specs.Arranged.{Adds, AreLists, AreTakes, Follows, IsAsked, IsEnd, IsLastBefore, IsNextAt, IsRightBefore, PlaysAt}
-use Rattle.bk_form.specs.Chains.{IsStateAt}
 use Rattle.bk_form.specs.Groups.{AreGroupsOf, AreListed}
 use Rattle.bk_form.specs.Orders.{IsOrder, Leads}
 use Rattle.bk_form.specs.Places.{NodeRecord, node_at, nodes_of}
 use Rattle.bk_form.specs.Search.{IsEdge, Path, here, onward}
 use Rattle.bk_form.proofs.Copied.{AreValues}
 use Rattle.bk_form.proofs.Members.{none_in}
-use Rattle.bk_form.proofs.Needing.{in_block, listed_from, listed_to, edge_taken, taken_edge, needs_path, path_needs}
-use Rattle.bk_form.proofs.Reaching.{path_within}
+use Rattle.bk_form.proofs.Needing.{in_block, listed_from, listed_to, taken_edge, needs_path, path_needs}
 use Rattle.bk_form.proofs.Rounding.{leads_on}
 use Rattle.bk_form.proofs.Standing.{at_some, node_in}
 

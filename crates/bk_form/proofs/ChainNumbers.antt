@@ -1,26 +1,24 @@
 -- Runs of places as chains of numbers.
-use Rattle.std.proofs.Common.{◌≡◌, ◌∙◌, sym, refl, ap, subst, ℕ, ◌+◌, ◌<◌, ◌≤◌, ◌==◌, ◌⊎◌, ◌↔◌, false, List, [], ◌∷◌, ◌++◌, map, length, get_or, Option, None, Some, ⊎_elim, arith}
+use Rattle.std.proofs.Common.{◌≡◌, ◌∙◌, sym, refl, ap, subst, ℕ, ◌<◌, ◌==◌, ◌↔◌, false, List, [], ◌∷◌, ◌++◌, map, length, get_or, Option, None, Some, ⊎_elim}
 use Rattle.std.specs.List.{AllByRecursion, Contains, IsDistinct, slice_get}
-use Rattle.std.specs.Option.{MatchOption}
 use Rattle.std.proofs.lemmas.Bool.{cases_lt, ne_eqb}
 use Rattle.std.proofs.lemmas.List.{get_or_past, map-append}
 use Rattle.std.proofs.lemmas.Map.Keys.{IsDistinct-cons}
 use Rattle.std.proofs.lemmas.Option.{none-some, same_Some}
 use Rattle.bk_func.specs.Records.{ValueRecord, BlockRecord, FuncRecord}
-use Rattle.bk_func.specs.Form.Text.{HasBlock, HasValue}
 use Rattle.bk_func.specs.Form.States.{IsState, IsStateOf, IsLinked, first, more, IsChain, Names}
 use Rattle.bk_form.specs.declared.chains.Chain.{Chain}
 use Rattle.bk_form.specs.declared.chains.Chain.TheVariants.{Empty, Linked, Broken}
 use Rattle.bk_form.specs.Chains.{AreBefores, AreHomes, AreNamed, IsChainAt, IsChainOf, IsClosedBy, IsRun}
 use Rattle.bk_form.specs.Search.{Reverses}
-use Rattle.bk_form.specs.Naming.{NamesIf, NamesPlace}
+use Rattle.bk_form.specs.Naming.{NamesIf}
 use Rattle.bk_form.specs.Numbers.{value_ids}
 use Rattle.bk_form.specs.Places.{NodeRecord, node_at, nodes_of}
 use Rattle.bk_form.proofs.Copied.{AreValues, one_node}
 use Rattle.bk_form.proofs.Marking.{marked_or}
 use Rattle.bk_form.proofs.Members.{first_in, later_in, none_in, first_or_later, mapped_in, mapped_from}
 use Rattle.bk_form.proofs.Running.{not_again, same_list}
-use Rattle.bk_form.proofs.Standing.{contains_at, node_in, number_at, one_value}
+use Rattle.bk_form.proofs.Standing.{node_in, number_at, one_value}
 
 -- lists of places are about the function
 pub record ArePlaces (f : FuncRecord) (hs ns bs : List (Option ℕ)) : Type 0 where

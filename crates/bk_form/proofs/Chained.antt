@@ -1,15 +1,12 @@
 -- What the states of a block are, by the places that links lead through.
-use Rattle.std.proofs.Common.{◌≡◌, ◌∙◌, sym, refl, ap, subst, ℕ, ◌+◌, ◌<◌, ◌≤◌, ◌⊎◌, ◌↔◌, List, [], ◌∷◌, ◌++◌, length, get_or, Option, None, Some, inl, inr, ⊎_elim, arith}
+use Rattle.std.proofs.Common.{◌≡◌, ◌∙◌, sym, refl, ap, subst, ℕ, ◌<◌, List, [], ◌∷◌, length, get_or, Option, None, Some}
 use Rattle.std.specs.List.{Contains, slice_get}
-use Rattle.std.proofs.lemmas.Bool.{cases_lt}
-use Rattle.std.proofs.lemmas.List.{get_or_past}
-use Rattle.std.proofs.lemmas.Option.{none-some, same_Some, slice_get_past}
+use Rattle.std.proofs.lemmas.Option.{none-some, same_Some}
 use Rattle.bk_form.specs.declared.chains.Links.{Links}
 use Rattle.bk_form.specs.declared.chains.Chain.TheVariants.{Empty, Linked, Broken}
-use Rattle.bk_form.specs.Chains.{IsRun, IsRunOf, IsChainAt, AreLinks, IsClosedBy}
-use Rattle.bk_form.specs.Search.{IsEdge, Path, Reverses}
-use Rattle.bk_form.proofs.Members.{first_in, later_in, none_in, first_or_later}
-use Rattle.bk_form.proofs.Reaching.{path_within}
+use Rattle.bk_form.specs.Chains.{IsRunOf, IsChainAt, AreLinks, IsClosedBy}
+use Rattle.bk_form.specs.Search.{IsEdge, Path}
+use Rattle.bk_form.proofs.Members.{first_in, none_in}
 use Rattle.bk_form.proofs.Running.{Closes, after_in, not_again, one_before, run_end, path_run, one_start, run_all, run_whole}
 use Rattle.bk_form.proofs.Standing.{contains_at}
 

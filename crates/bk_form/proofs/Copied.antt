@@ -1,22 +1,22 @@
 -- What copies of memory stand for.
-use Rattle.std.proofs.Common.{◌≡◌, ◌≢◌, ◌∙◌, sym, refl, ap, subst, ℕ, ◌+◌, ◌<◌, ◌≤◌, ◌⊎◌, ◌↔◌, List, [], ◌∷◌, ◌++◌, map, length, get_or, set, replicate, Option, None, Some, inl, inr, ⊎_elim, arith}
+use Rattle.std.proofs.Common.{◌≡◌, ◌∙◌, sym, refl, ap, subst, ℕ, ◌+◌, ◌<◌, ◌≤◌, ◌⊎◌, ◌↔◌, List, [], ◌∷◌, ◌++◌, map, length, get_or, set, replicate, Option, None, Some, inl, inr, ⊎_elim, arith}
 use Rattle.std.specs.List.{Contains, flat_map, slice_get}
 use Rattle.std.specs.Option.{MatchOption}
 use Rattle.std.proofs.lemmas.Bool.{cases_eq, cases_lt}
 use Rattle.std.proofs.lemmas.List.{get_or_past, get_or-replicate, get_or-set_other, get_or-set_same, length-append, length-map, length-replicate, length-set}
 use Rattle.std.proofs.lemmas.List.Elements.{Contains-append_left, Contains-push, Contains-push_cases}
-use Rattle.std.proofs.lemmas.Option.{slice_get_within, get_or_from_slice_get, none-some, same_Some}
+use Rattle.std.proofs.lemmas.Option.{slice_get_within, get_or_from_slice_get, same_Some}
 use Rattle.bk_func.specs.Records.{ValueRecord, BlockRecord, FuncRecord}
 use Rattle.bk_func.specs.declared.form.FormKind.TheVariants.{Missing}
 use Rattle.bk_func.specs.Form.{Keeps}
 use Rattle.bk_func.specs.Form.Signatures.{Setting}
-use Rattle.bk_func.specs.Form.Text.{HasBlock, HasValue}
+use Rattle.bk_func.specs.Form.Text.{HasValue}
 use Rattle.bk_func.specs.Form.States.{CopiesMemory, StandsFor, itself, copied}
 use Rattle.bk_func.specs.Form.Parts.{IsValueNumber}
 use Rattle.bk_form.specs.Numbers.{value_ids, sole}
 use Rattle.bk_form.specs.Places.{NodeRecord, node_at, nodes_from, nodes_of}
 use Rattle.bk_form.specs.Roots.{Copies, IsCopyAt, AreCopies, AreRoots}
-use Rattle.bk_form.specs.Search.{IsEdge, Path, here, onward, IsMarked, with_edge}
+use Rattle.bk_form.specs.Search.{IsEdge, Path, here, onward, with_edge}
 use Rattle.bk_form.proofs.Bearers.{sole_is}
 use Rattle.bk_form.proofs.Members.{none_in}
 use Rattle.bk_form.proofs.Reaching.{path_within}

@@ -1,13 +1,13 @@
 -- The state on all walks to a block.
-use Rattle.std.proofs.Common.{◌≡◌, ◌≢◌, ◌∙◌, sym, refl, ap, subst, ℕ, ◌+◌, ◌<◌, ◌≤◌, ◌⊎◌, ◌↔◌, Bool, true, false, cond, List, [], ◌∷◌, ◌++◌, length, get_or, Option, None, Some, inl, inr, ⊎_elim, arith}
+use Rattle.std.proofs.Common.{◌≡◌, ◌∙◌, sym, refl, ap, subst, ℕ, ◌<◌, ◌⊎◌, Bool, true, false, cond, List, [], ◌∷◌, length, get_or, Option, None, Some, inl, inr, ⊎_elim, arith}
 use Rattle.std.specs.List.{Contains, slice_get}
-use Rattle.std.proofs.lemmas.Bool.{cases_eq, false≢true}
+use Rattle.std.proofs.lemmas.Bool.{cases_eq}
 use Rattle.std.proofs.lemmas.Option.{none-some, same_Some, slice_get_within}
-use Rattle.bk_func.specs.Records.{ValueRecord, BlockRecord, FuncRecord}
-use Rattle.bk_func.specs.Form.Text.{HasBlock, IsEntry}
+use Rattle.bk_func.specs.Records.{BlockRecord, FuncRecord}
+use Rattle.bk_func.specs.Form.Text.{HasBlock}
 use Rattle.bk_func.specs.Form.Walks.{Walk, begin, onward, IsReached}
 use Rattle.bk_func.specs.Form.States.{IsStateOf, IsChain, Carries, made, kept, IsFirstState, IsLastState}
-use Rattle.bk_form.specs.Carried.{AreOpen, AreIncoming, AreDiffering, AreFirstStates, Differs, IsPlaceOf, is_open, out_of, source_of, unmarked}
+use Rattle.bk_form.specs.Carried.{AreOpen, AreIncoming, AreDiffering, AreFirstStates, IsPlaceOf, is_open, out_of, source_of, unmarked}
 use Rattle.bk_form.specs.Chains.{AreChains, IsChainOf}
 use Rattle.bk_form.specs.declared.chains.Chain.{Chain}
 use Rattle.bk_form.specs.declared.chains.Chain.TheVariants.{Empty, Linked, Broken}
@@ -15,7 +15,7 @@ use Rattle.bk_form.specs.Places.{NodeRecord, nodes_of}
 use Rattle.bk_form.specs.Search.{IsEdge, Path, here, onward as farther, PathFrom, IsMarked}
 use Rattle.bk_form.specs.Walks.{block_edges, IsRow}
 use Rattle.bk_form.proofs.Copied.{AreValues, one_node}
-use Rattle.bk_form.proofs.Members.{first_in, later_in, none_in, first_or_later}
+use Rattle.bk_form.proofs.Members.{first_in, later_in, none_in}
 use Rattle.bk_form.proofs.Reaching.{path_start, path_within}
 use Rattle.bk_form.proofs.Standing.{contains_at, at_contains, at_some}
 use Rattle.bk_form.proofs.Walked.{AreNamed, length_edges, step_edge, edge_step, walk_has, walk_all, reached_from, reached_to, same_place}

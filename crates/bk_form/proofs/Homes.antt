@@ -1,11 +1,11 @@
 -- The states of blocks by places, one place after the other.
-use Rattle.std.proofs.Common.{◌≡◌, ◌∙◌, sym, refl, ap, subst, ℕ, ◌+◌, ◌<◌, ◌≤◌, ◌⊎◌, ◌↔◌, List, length, get_or, Option, None, Some, true, false, ⊎_elim, arith}
-use Rattle.std.specs.List.{Contains, slice_get}
+use Rattle.std.proofs.Common.{◌≡◌, ◌∙◌, sym, refl, ap, subst, ℕ, ◌<◌, ◌≤◌, ◌↔◌, List, length, Option, None, Some, true, false, ⊎_elim, arith}
+use Rattle.std.specs.List.{slice_get}
 use Rattle.std.specs.Option.{is_some}
 use Rattle.std.proofs.lemmas.Bool.{cases_lt, false≢true}
 use Rattle.std.proofs.lemmas.List.{get_or_past}
 use Rattle.std.proofs.lemmas.Option.{get_or_from_slice_get, none-some, same_Some, slice_get_within}
-use Rattle.bk_func.specs.Records.{ValueRecord, BlockRecord, FuncRecord}
+use Rattle.bk_func.specs.Records.{BlockRecord, FuncRecord}
 use Rattle.bk_func.specs.Form.Text.{HasBlock}
 use Rattle.bk_func.specs.Form.States.{IsChain}
 use Rattle.bk_form.specs.Chains.{AreBefores, AreChains, AreHomes, AreNamed, IsBefore, IsChainOf, IsStateAt}

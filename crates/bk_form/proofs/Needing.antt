@@ -1,5 +1,5 @@
 -- What values need, as paths along what they take.
-use Rattle.std.proofs.Common.{◌≡◌, ◌≢◌, ◌∙◌, sym, refl, ap, subst, ℕ, ◌+◌, ◌<◌, ◌≤◌, ◌⊎◌, ◌↔◌, List, [], ◌∷◌, ◌++◌, map, length, get_or, replicate, zero, suc, Option, None, Some, inl, inr, ⊎_elim, arith, zero-add}
+use Rattle.std.proofs.Common.{◌≡◌, ◌≢◌, ◌∙◌, sym, refl, ap, subst, ℕ, ◌+◌, ◌<◌, ◌≤◌, ◌⊎◌, List, [], ◌∷◌, ◌++◌, map, length, get_or, replicate, zero, suc, Option, None, Some, inl, inr, ⊎_elim, arith, zero-add}
 use Rattle.std.specs.List.{Contains, slice_get}
 use Rattle.std.proofs.lemmas.Bool.{cases_lt}
 use Rattle.std.proofs.lemmas.List.{get_or_past, get_or-replicate, length-map, length-replicate}
@@ -7,13 +7,11 @@ use Rattle.std.proofs.lemmas.Option.{none-some, same_Some, slice_get-map, slice_
 use Rattle.std.specs.Option.{option_map}
 use Rattle.bk_func.specs.Records.{ValueRecord, BlockRecord, FuncRecord}
 use Rattle.bk_func.specs.Form.Before.{IsTakenBy, Needs, takes, through, IsListed}
-use Rattle.bk_form.specs.declared.search.Search.{Search}
-use Rattle.bk_form.specs.Arranged.{AreTakes, TakesTo, AreEnds, IsEnd, end_of}
-use Rattle.bk_form.specs.Places.{NodeRecord, node_at, nodes_from, nodes_of}
+use Rattle.bk_form.specs.Arranged.{AreTakes, AreEnds, IsEnd, end_of}
+use Rattle.bk_form.specs.Places.{node_at, nodes_from, nodes_of}
 use Rattle.bk_form.specs.Search.{IsEdge, Path, here, onward, IsMarked, Marks, IsClosed, Grows}
 use Rattle.bk_form.proofs.Copied.{AreValues, one_node}
 use Rattle.bk_form.proofs.Marking.{marked_or, none_closed}
-use Rattle.bk_form.proofs.Reaching.{path_within}
 use Rattle.bk_form.proofs.Standing.{at_contains, node_in, node_stands, slice_get_left, slice_get_right}
 
 -- a value stands in the block of its place

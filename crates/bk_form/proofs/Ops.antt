@@ -29,6 +29,8 @@ unfolding row entry
 counted op.Phi a b h = absurd (cc)
 counted op.StaticLECall a b h = absurd (cc)
 counted op.MakeResult a b h = absurd (cc)
+counted op.RetRegs a b h = absurd (cc)
+counted op.CallRegs a b h = absurd (cc)
 counted (op.Arm m) a b h = arm_counted m
 counted (op.Rv m) a b h = rv_counted m
 counted _ a b h = refl

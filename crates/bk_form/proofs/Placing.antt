@@ -1,9 +1,9 @@
 -- The values of a block by their numbers.
-use Rattle.std.proofs.Common.{◌≡◌, ◌∙◌, sym, refl, ap, subst, ℕ, ◌+◌, ◌<◌, ◌≤◌, ◌⊎◌, ◌↔◌, List, [], length, get_or, take, Option, None, Some, inl, inr, ⊎_elim, arith}
-use Rattle.std.specs.List.{All, Contains, slice_get}
+use Rattle.std.proofs.Common.{◌≡◌, ◌∙◌, sym, ap, subst, ℕ, ◌+◌, ◌<◌, ◌≤◌, ◌⊎◌, ◌↔◌, List, [], length, get_or, take, Option, None, Some, inl, inr, ⊎_elim, arith}
+use Rattle.std.specs.List.{Contains, slice_get}
 use Rattle.std.proofs.lemmas.List.{take_all}
-use Rattle.std.proofs.lemmas.Option.{none-some, same_Some, get_or_from_slice_get, slice_get_within}
-use Rattle.bk_func.specs.Records.{ValueRecord, FuncRecord}
+use Rattle.std.proofs.lemmas.Option.{none-some, same_Some, slice_get_within}
+use Rattle.bk_func.specs.Records.{FuncRecord}
 use Rattle.bk_func.specs.Form.Text.{IsPhi}
 use Rattle.bk_func.specs.Form.Parts.{IsValueNumber}
 use Rattle.bk_form.specs.Arranged.{AreTakes, TakesTo}

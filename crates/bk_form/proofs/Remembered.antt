@@ -1,36 +1,36 @@
 -- What blocks and values do with memory, by the places that were found.
-use Rattle.std.proofs.Common.{◌≡◌, ◌≢◌, ◌∙◌, sym, refl, ap, subst, ℕ, ◌+◌, ◌<◌, ◌≤◌, ◌⊎◌, ◌↔◌, Bool, true, false, List, [], ◌∷◌, ◌++◌, length, get_or, Option, None, Some, inl, inr, ⊎_elim, arith}
+use Rattle.std.proofs.Common.{◌≡◌, ◌∙◌, sym, refl, ap, subst, ℕ, ◌+◌, ◌<◌, ◌≤◌, ◌⊎◌, ◌↔◌, Bool, true, false, List, [], ◌∷◌, ◌++◌, length, get_or, Option, None, Some, inl, inr, ⊎_elim, arith}
 use Rattle.std.specs.Bool.{IsTrue}
 use Rattle.std.specs.Borrow.{Bor}
-use Rattle.std.specs.List.{All, Contains, slice_get}
+use Rattle.std.specs.List.{Contains, slice_get}
 use Rattle.std.specs.Option.{MatchOption, option_and_then, is_some, option_copied, option_map, unwrap_or}
 use Rattle.std.specs.Slice.{IsItemAt}
 use Rattle.std.proofs.lemmas.Bool.{cases_lt, false≢true}
 use Rattle.std.proofs.lemmas.List.{get_or_past}
 use Rattle.std.proofs.lemmas.Option.{none-some, same_Some, slice_get_within}
-use Rattle.bk_ops.specs.declared.family.Family.TheVariants.{InitMem, MakeResult, ResWord, SelectN}
-use Rattle.bk_ops.specs.declared.types.Ty.TheVariants.{Mem, Tuple}
+use Rattle.bk_ops.specs.Families.{is_call_result}
+use Rattle.bk_ops.specs.declared.family.Family.TheVariants.{InitMem, MakeResult}
+use Rattle.bk_ops.specs.declared.types.Ty.TheVariants.{Mem}
 use Rattle.bk_func.specs.Records.{ValueRecord, BlockRecord, FuncRecord}
-use Rattle.bk_func.specs.Form.Text.{Defines, HasBlock, HasValue, IsEntry, IsFirstIn, IsPhi}
+use Rattle.bk_func.specs.Form.Text.{Defines, HasBlock, HasValue, IsFirstIn, IsPhi}
 use Rattle.bk_func.specs.Form.Walks.{IsReached}
 use Rattle.bk_func.specs.Form.Parts.{IsValueNumber}
-use Rattle.bk_func.specs.Form.States.{EndsItsBlock, EndsWithState, HasChain, HasMemoryPhi, IsChain, IsFirstState, IsLastState, IsLinked, first, more, IsState, IsStateOf, IsStateIn, NamesAt, Names, StandsFor, Starts}
+use Rattle.bk_func.specs.Form.States.{EndsItsBlock, EndsWithState, HasChain, HasMemoryPhi, IsChain, IsFirstState, IsLastState, IsLinked, first, more, IsState, IsStateOf, Names, StandsFor, Starts}
 use Rattle.bk_form.specs.Carried.{IsPlaceOf}
-use Rattle.bk_form.specs.Chains.{AreChains, AreHomes, IsChainOf, IsStateAt}
+use Rattle.bk_form.specs.Chains.{AreChains, AreHomes, IsChainOf}
 use Rattle.bk_form.specs.declared.chains.Chain.{Chain}
-use Rattle.bk_form.specs.declared.chains.Chain.TheVariants.{Empty, Linked, Broken}
+use Rattle.bk_form.specs.declared.chains.Chain.TheVariants.{Linked, Broken}
 use Rattle.bk_form.specs.Memories.{AreControls, At, EndsWith, IsControlled, Meets, NamesLast, NamesRight, NamesWithin, TakesBefore, TakesBehind, TakesLast}
 use Rattle.bk_form.specs.Naming.{NamesIf, NamesBy}
 use Rattle.bk_form.specs.Numbers.{block_ids, value_ids, sole}
 use Rattle.bk_form.specs.Places.{NodeRecord, node_at, nodes_of, node_named}
 use Rattle.bk_form.specs.Roots.{AreRoots}
-use Rattle.bk_form.specs.Search.{IsEdge, Reverses}
 use Rattle.bk_form.proofs.Bearers.{sole_is}
 use Rattle.bk_form.proofs.Copied.{AreValues, one_node, stands_at}
 use Rattle.bk_form.proofs.Filling.{Filled}
 use Rattle.bk_form.proofs.Lists.{lent}
-use Rattle.bk_form.proofs.Members.{first_in, later_in, none_in, first_or_later, last_in, same_end}
-use Rattle.bk_form.proofs.Standing.{contains_at, at_contains, at_some, node_in, node_stands, node_of, node_alone, block_alone, one_value, one_place}
+use Rattle.bk_form.proofs.Members.{first_in, none_in, first_or_later, last_in, same_end}
+use Rattle.bk_form.proofs.Standing.{contains_at, at_contains, at_some, node_in, node_stands, node_of, block_alone, one_value, one_place}
 use Rattle.bk_form.proofs.StateNames.{phi_names, stands_there}
 use Rattle.bk_form.specs.Walks.{block_edges, IsRow}
 use Rattle.bk_form.proofs.Walked.{AreNamed, block_there, home_of, reached_from, reached_to}
@@ -392,21 +392,25 @@ names_first f values hs homes at place b v eb (m, em, says) away free o state =
 
 -- whether a value must name a state
 pub right_apart : (f : FuncRecord) (b : BlockRecord) (v : ValueRecord)
-    → IsPhi v ⊎ (v.op.family ≡ MakeResult) ⊎ (v.op.family ≡ SelectN) ⊎ (v.op.family ≡ ResWord) → NamesRight f b v
-right_apart f b v apart k a c d e reached at within = absurd (⊎_elim a (λ r. ⊎_elim c (λ s. ⊎_elim d e s) r) apart)
+    → IsPhi v ⊎ (v.op.family ≡ MakeResult) ⊎ (is_call_result v.op.family ≡ true) → NamesRight f b v
+right_apart f b v apart k a c d reached at within = absurd (⊎_elim a (λ r. ⊎_elim c (λ s. false≢true (sym d ∙ s)) r) apart)
 
 pub right_unreached : (f : FuncRecord) (b : BlockRecord) (v : ValueRecord) → ¬ IsReached f b → NamesRight f b v
-right_unreached f b v none k a c d e reached at within = absurd (none reached)
+right_unreached f b v none k a c d reached at within = absurd (none reached)
 
 pub right_nothing : (f : FuncRecord) (b : BlockRecord) (v : ValueRecord) → ((n : ℕ) → ¬ NamesBy v n) → NamesRight f b v
-right_nothing f b v none k a c d e reached at within = let (n, g) = at_some v.args k within in absurd (none n (k, at, g))
+right_nothing f b v none k a c d reached at within = let (n, g) = at_some v.args k within in absurd (none n (k, at, g))
 
 pub right_named : (f : FuncRecord) (b : BlockRecord) (v : ValueRecord) (n : ℕ) → IsReached f b
-    → ¬ (IsPhi v ⊎ (v.op.family ≡ MakeResult) ⊎ (v.op.family ≡ SelectN) ⊎ (v.op.family ≡ ResWord)) → NamesBy v n → NamesWithin f b v ↔ NamesRight f b v
+    → ¬ (IsPhi v ⊎ (v.op.family ≡ MakeResult) ⊎ (is_call_result v.op.family ≡ true)) → NamesBy v n → NamesWithin f b v ↔ NamesRight f b v
 right_named f b v n reached other (k, at, g) = (
-  λ within j a c d e r l m. within,
-  λ right. right k (λ h. other (inl h)) (λ h. other (inr (inl h))) (λ h. other (inr (inr (inl h)))) (λ h. other (inr (inr (inr h)))) reached at (slice_get_within v.args k n g),
+  λ within j a c d r l m. within,
+  λ right. right k (λ h. other (inl h)) (λ h. other (inr (inl h))) (not_so (is_call_result v.op.family) (λ h. other (inr (inr h)))) reached at (slice_get_within v.args k n g),
 )
+  where
+    not_so : (t : Bool) → ¬ (t ≡ true) → t ≡ false
+    not_so true no' = absurd (no' refl)
+    not_so false no' = refl
 
 -- the places of controls
 pub controls_all : (f : FuncRecord) (ks : List (Option ℕ)) (i : ℕ) → i ≡ length f.blocks

@@ -1,18 +1,17 @@
 -- Values that come before themselves, as paths.
-use Rattle.std.proofs.Common.{◌≡◌, ◌≢◌, ◌∙◌, sym, refl, ap, subst, ℕ, ◌+◌, ◌<◌, ◌≤◌, ◌⊎◌, ◌↔◌, Bool, true, false, List, [], length, get_or, replicate, Option, None, Some, inl, inr, ⊎_elim, arith}
+use Rattle.std.proofs.Common.{◌≡◌, ◌≢◌, ◌∙◌, sym, refl, ap, subst, ℕ, ◌+◌, ◌<◌, ◌≤◌, ◌↔◌, Bool, true, false, List, [], length, get_or, replicate, Option, None, Some, ⊎_elim, arith}
 use Rattle.std.specs.Bool.{MatchBool}
 use Rattle.std.specs.List.{All, Contains, slice_get}
 use Rattle.std.proofs.lemmas.Bool.{cases_lt, false≢true}
 use Rattle.std.proofs.lemmas.List.{get_or_default, get_or_past, get_or-replicate, length-replicate}
 use Rattle.std.proofs.lemmas.List.Elements.{All-contains, Contains-get_or}
-use Rattle.std.proofs.lemmas.Option.{none-some, same_Some, slice_get_within}
+use Rattle.std.proofs.lemmas.Option.{none-some, same_Some}
 use Rattle.bk_func.specs.Records.{ValueRecord, BlockRecord, FuncRecord}
 use Rattle.bk_func.specs.Form.Before.{ComesBefore, argument, state, checks, needed, unneeded, Precedes, right, onward}
-use Rattle.bk_func.specs.Form.Text.{HasBlock, HasValue}
-use Rattle.bk_func.specs.Form.Parts.{IsValueNumber}
+use Rattle.bk_func.specs.Form.Text.{HasValue}
 use Rattle.bk_form.specs.Numbers.{value_ids, sole}
 use Rattle.bk_form.specs.Orders.{IsOrder, Leads, Rises}
-use Rattle.bk_form.specs.Places.{NodeRecord, node_at, nodes_of}
+use Rattle.bk_form.specs.Places.{node_at, nodes_of}
 use Rattle.bk_form.specs.Search.{IsEdge, Path, here, onward as farther, IsMarked, Marks, IsClosed, Grows}
 use Rattle.bk_form.proofs.Copied.{AreValues}
 use Rattle.bk_form.proofs.Marking.{marked_or, none_closed, marked_still}

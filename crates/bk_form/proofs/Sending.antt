@@ -10,26 +10,27 @@ use Rattle.bk_ops.specs.Types.{width_of}
 use Rattle.bk_ops.specs.declared.types.Target.{Target}
 use Rattle.bk_ops.specs.declared.types.Ty.{Ty}
 use Rattle.bk_ops.specs.declared.types.Ty.TheVariants.{Mem}
-use Rattle.bk_ops.specs.declared.family.Family.TheVariants.{Call, OutWord}
+use Rattle.bk_ops.specs.Families.{is_word_call}
+use Rattle.bk_ops.specs.declared.family.Family.TheVariants.{OutWord}
 use Rattle.bk_func.specs.Records.{ValueRecord, BlockRecord, FuncRecord, SigRecord, PackageRecord}
 use Rattle.bk_func.specs.Form.{strict}
-use Rattle.bk_func.specs.Form.Text.{HasValue}
+use Rattle.bk_func.specs.Form.Text.{HasValue, IsPhi}
 use Rattle.bk_func.specs.Form.Parts.{IsValueNumber}
-use Rattle.bk_func.specs.Form.Signatures.{Setting, sig_of, IsWordFor, last, before, ArgumentOf}
+use Rattle.bk_func.specs.Form.Signatures.{Setting, sig_of, IsBefore, last, before, ArgumentOf}
 use Rattle.bk_func.specs.Form.States.{StandsFor, Names}
 use Rattle.bk_func.specs.Form.Shapes.{FitsWordOf, IsMemory}
 use Rattle.bk_form.specs.declared.sent.Question.{Question}
 use Rattle.bk_form.specs.declared.sent.Question.TheVariants.{Misfit}
 use Rattle.bk_form.specs.Naming.{NamesIf}
 use Rattle.bk_form.specs.Numbers.{value_ids, sole}
-use Rattle.bk_form.specs.Places.{NodeRecord, AllNamed, nodes_of, value_with, first_named, root_with, mark_of, mark_at}
+use Rattle.bk_form.specs.Places.{NodeRecord, AllNamed, node_at, nodes_of, value_with, first_named, root_with, mark_of, mark_at}
 use Rattle.bk_form.specs.Roots.{AreRoots}
 use Rattle.bk_form.specs.Search.{IsEdge, Path, here, onward}
-use Rattle.bk_form.specs.Sent.{Passes, FitsCalls, LeadsTo, AreSteps, IsCallAt, IsReachedBy, AreAnswers, AnswersCalls}
+use Rattle.bk_form.specs.Sent.{Passes, FitsCalls, LeadsTo, StepsTo, AreSteps, IsFoundFrom, IsCallFor, IsReachedBy, AreAnswers, AnswersCalls}
 use Rattle.bk_form.proofs.Copied.{AreValues, place_for, stands_at, one_node}
 use Rattle.bk_form.proofs.Named.{argument_named}
 use Rattle.bk_form.proofs.Reaching.{path_within}
-use Rattle.bk_form.proofs.Standing.{at_some, node_alone, one_value}
+use Rattle.bk_form.proofs.Standing.{contains_at, at_contains, at_some, node_stands, node_in, node_alone, one_value}
 use Rattle.bk_form.proofs.StateNames.{stands_there}
 
 -- what stands in a word is what its first argument names
@@ -154,145 +155,179 @@ root_nothing f values rs roots b v P has none (c, u, there, stands, memory, p) =
 pub with_unit : {A B : Type 0} → (A ↔ B) → A ↔ (B × Unit {0})
 with_unit (to, from) = ((λ a. (to a, tt)), (λ (b, u). from b))
 
--- the word behind a call or a word
-pub leads_nowhere : (f : FuncRecord) (v : ValueRecord) → ((s : ℕ) → ¬ Names f v s) → (q : ℕ) → ¬ LeadsTo f v q
-leads_nowhere f v none q (o, e, (kind, word, names)) = none o.value.id names
+-- a value whose search back goes on leads to what it names in its block
+pub leads_nowhere : (f : FuncRecord) (m : NodeRecord) → ((s : ℕ) → ¬ Names f m.value s) → (q : ℕ) → (None ≡ Some q) ↔ LeadsTo f m q
+leads_nowhere f m none q = ((λ e. absurd (none-some q e)), (λ (o, e, home, names). absurd (none o.value.id names)))
 
-pub leads_to_word : (f : FuncRecord) → AreValues f → (v : ValueRecord) (p : ℕ) → (v.op.family ≡ Call) ⊎ (v.op.family ≡ OutWord) → NamesIf f v (Some p)
-    → ((m : NodeRecord) × (slice_get (nodes_of f) p ≡ Some m) × (m.value.op.family ≡ OutWord)) → (q : ℕ) → LeadsTo f v q ↔ (q ≡ p)
-leads_to_word f values v p kind (m, e, is) (x, ex, word) q = (
-  (λ (o, eo, (k, w, names)). (one_node f values q p o m eo e ((is o.value.id).0 names)).0),
-  (λ same. (m, ap (slice_get (nodes_of f)) same ∙ e, (kind, subst (λ (n : NodeRecord). n.value.op.family ≡ OutWord) (same_Some x m (sym ex ∙ e)) word, (is m.value.id).1 refl))),
+pub leads_there : (f : FuncRecord) → AreValues f → (m : NodeRecord) (p : ℕ) → NamesIf f m.value (Some p) → ((o : NodeRecord) × (slice_get (nodes_of f) p ≡ Some o) × (m.home ≡ o.home))
+    → (q : ℕ) → (Some p ≡ Some q) ↔ LeadsTo f m q
+leads_there f values m p (x, ex, is) (y, ey, home) q = (
+  (λ e.
+      let same : p ≡ q = same_Some p q e in
+      let node : y ≡ x = same_Some y x (sym ey ∙ ex) in
+      (x, ap (slice_get (nodes_of f)) (sym same) ∙ ex, home ∙ ap (λ (n : NodeRecord). n.home) node, (is x.value.id).1 refl)),
+  (λ (o, eo, at, names). ap Some (sym (one_node f values q p o x eo ex ((is o.value.id).0 names)).0)),
 )
 
-pub leads_to_other : (f : FuncRecord) → AreValues f → (v : ValueRecord) (p : ℕ) → NamesIf f v (Some p)
-    → ¬ ((m : NodeRecord) × (slice_get (nodes_of f) p ≡ Some m) × (m.value.op.family ≡ OutWord)) → (q : ℕ) → ¬ LeadsTo f v q
-leads_to_other f values v p (m, e, is) other q (o, eo, (k, word, names)) =
-    let (place, node) = one_node f values q p o m eo e ((is o.value.id).0 names) in
-    other (m, e, subst (λ (n : NodeRecord). n.value.op.family ≡ OutWord) node word)
+pub leads_away : (f : FuncRecord) → AreValues f → (m : NodeRecord) (p : ℕ) → NamesIf f m.value (Some p) → ¬ ((o : NodeRecord) × (slice_get (nodes_of f) p ≡ Some o) × (m.home ≡ o.home))
+    → (q : ℕ) → (None ≡ Some q) ↔ LeadsTo f m q
+leads_away f values m p (x, ex, is) away q = (
+  (λ e. absurd (none-some q e)),
+  (λ (o, eo, at, names).
+      let (place, node) = one_node f values q p o x eo ex ((is o.value.id).0 names) in
+      absurd (away (x, ex, at ∙ ap (λ (n : NodeRecord). n.home) node))),
+)
 
--- the list of the places that a value leads to
-pub led_none : (f : FuncRecord) (v : ValueRecord) (xs : List ℕ) → xs ≡ [] → ((q : ℕ) → ¬ LeadsTo f v q) → (q : ℕ) → Contains xs q ↔ LeadsTo f v q
-led_none f v xs e none q = ((λ m. let (k, l, g) = subst (λ (us : List ℕ). Contains us q) e m in absurd (omega arith)), (λ h. absurd (none q h)))
+-- the list of the places that a value steps to
+pub stepped_none : (f : FuncRecord) (m : NodeRecord) (xs : List ℕ) → xs ≡ [] → ((q : ℕ) → ¬ StepsTo f m q) → (q : ℕ) → Contains xs q ↔ StepsTo f m q
+stepped_none f m xs e none q = ((λ c. let (k, l, g) = subst (λ (us : List ℕ). Contains us q) e c in absurd (omega arith)), (λ h. absurd (none q h)))
 
-pub led_one : (f : FuncRecord) (v : ValueRecord) (xs : List ℕ) (p : ℕ) → xs ≡ p ∷ [] → ((q : ℕ) → LeadsTo f v q ↔ (q ≡ p)) → (q : ℕ) → Contains xs q ↔ LeadsTo f v q
-led_one f v xs p e one q = (
-  (λ m. (one q).1 (sym (alone (subst (λ (us : List ℕ). Contains us q) e m)))),
-  (λ h. subst (λ (us : List ℕ). Contains us q) (sym e) (0, omega arith, sym ((one q).0 h))),
+pub stepped_one : (f : FuncRecord) (m : NodeRecord) (xs : List ℕ) (p : ℕ) → xs ≡ p ∷ [] → ((q : ℕ) → (Some p ≡ Some q) ↔ LeadsTo f m q) → ¬ (IsPhi m.value ⊎ (is_word_call m.value.op.family ≡ true))
+    → (q : ℕ) → Contains xs q ↔ StepsTo f m q
+stepped_one f m xs p e one free q = (
+  (λ c. (
+    λ phi. free (inl phi),
+    not_so (is_word_call m.value.op.family) (λ call. free (inr call)),
+    (one q).0 (ap Some (alone (subst (λ (us : List ℕ). Contains us q) e c))),
+  )),
+  (λ (phi, call, leads). subst (λ (us : List ℕ). Contains us q) (sym e) (0, omega arith, same_Some p q ((one q).1 leads))),
 )
   where
     alone : Contains (p ∷ []) q → p ≡ q
     alone (k, l, g) = let z : k ≡ 0 = omega arith in subst (λ (j : ℕ). get_or (p ∷ []) j q ≡ q) z g
+
+    not_so : (b : Bool) → ¬ (b ≡ true) → b ≡ false
+    not_so true n = absurd (n refl)
+    not_so false n = refl
 
 -- steps of one more value
 pub steps_none : (f : FuncRecord) → AreSteps f 0 []
 steps_none f = record { size = refl; edge = λ p m l. absurd (omega arith) }
 
 pub steps_more : (f : FuncRecord) (i : ℕ) (es : List (List ℕ)) (xs : List ℕ) (m : NodeRecord) → AreSteps f i es → slice_get (nodes_of f) i ≡ Some m
-    → ((q : ℕ) → Contains xs q ↔ LeadsTo f m.value q) → AreSteps f (i + 1) (es ++ xs ∷ [])
+    → ((q : ℕ) → Contains xs q ↔ StepsTo f m q) → AreSteps f (i + 1) (es ++ xs ∷ [])
 steps_more f i es xs m steps at leads = record { size = length_push es xs ∙ (ap (λ n. n + 1) steps.size); edge = edge }
   where
-    edge : (p : ℕ) (o : NodeRecord) → p < i + 1 → slice_get (nodes_of f) p ≡ Some o → (q : ℕ) → Contains (get_or (es ++ xs ∷ []) p []) q ↔ LeadsTo f o.value q
+    edge : (p : ℕ) (o : NodeRecord) → p < i + 1 → slice_get (nodes_of f) p ≡ Some o → (q : ℕ) → Contains (get_or (es ++ xs ∷ []) p []) q ↔ StepsTo f o q
     edge p o l e q = ⊎_elim
-        (λ (low : p < i). subst (λ (ys : List ℕ). Contains ys q ↔ LeadsTo f o.value q) (sym (get_or_append_left es (xs ∷ []) [] p (omega (arith, steps.size)))) (steps.edge p o low e q))
+        (λ (low : p < i). subst (λ (ys : List ℕ). Contains ys q ↔ StepsTo f o q) (sym (get_or_append_left es (xs ∷ []) [] p (omega (arith, steps.size)))) (steps.edge p o low e q))
         (λ (high : i ≤ p).
         let same : p ≡ i = omega arith in
         let node : m ≡ o = same_Some m o (sym at ∙ (ap (slice_get (nodes_of f)) (sym same) ∙ e)) in
-        subst (λ (ys : List ℕ). Contains ys q ↔ LeadsTo f o.value q)
+        subst (λ (ys : List ℕ). Contains ys q ↔ StepsTo f o q)
         (sym (get_or_push es xs [] p (omega (arith, steps.size, length_push es xs))))
-        (subst (λ (n : NodeRecord). Contains xs q ↔ LeadsTo f n.value q) node (leads q)))
+        (subst (λ (n : NodeRecord). Contains xs q ↔ StepsTo f n q) node (leads q)))
         (cases_lt p i)
 
--- calls are no words
-call_is_no_word : (v : ValueRecord) → v.op.family ≡ Call → v.op.family ≡ OutWord → ⊥
-call_is_no_word v e g = absurd (cc)
+-- the value at a place stands in the block of its home, and the other way round
+home_has : (f : FuncRecord) (i : ℕ) (b : BlockRecord) (p : ℕ) (m : NodeRecord) → slice_get f.blocks i ≡ Some b → slice_get (nodes_of f) p ≡ Some m → m.home ≡ i → HasValue f b m.value
+home_has f i b p m eb em home =
+    let (j, d, at, ed, inside) = node_stands 0 f.blocks p m em in
+    let same : j ≡ i = omega (arith, at, home) in
+    let block : d ≡ b = same_Some d b (sym ed ∙ (ap (slice_get f.blocks) same ∙ eb)) in
+    (contains_at f.blocks i b eb, subst (λ (c : BlockRecord). Contains c.values m.value) block inside)
 
--- a path along the steps leads to words
-led_word : (f : FuncRecord) (es : List (List ℕ)) → AreSteps f (length (nodes_of f)) es → (a k p : ℕ) → Path es a k p
-    → (p ≡ k) ⊎ ((m : NodeRecord) × (slice_get (nodes_of f) p ≡ Some m) × (m.value.op.family ≡ OutWord))
-led_word f es steps a k _ (here within) = inl refl
-led_word f es steps a k _ (onward p q path apart edge within) =
-    let low : p < length (nodes_of f) = omega (arith, steps.size, path_within es a k p path) in
-    let (x, ex) = at_some (nodes_of f) p low in
-    let (m, e, (kind, word, names)) = (steps.edge p x low ex q).0 edge in
-    inr (m, e, word)
+home_is : (f : FuncRecord) → AreValues f → (i : ℕ) (b : BlockRecord) (v : ValueRecord) (p : ℕ) (m : NodeRecord) → slice_get f.blocks i ≡ Some b → Contains b.values v → slice_get (nodes_of f) p ≡ Some m
+    → m.value ≡ v → m.home ≡ i
+home_is f values i b v p m eb inside em is =
+    let (q, eq) = node_in f i b v eb inside in
+    ap (λ (n : NodeRecord). n.home) (one_node f values p q m (node_at i v) em eq (ap (λ (u : ValueRecord). u.id) is)).1
 
--- which are words of the call that the path begins with
-pub path_words : (f : FuncRecord) (es : List (List ℕ)) → AreSteps f (length (nodes_of f)) es → (a k p : ℕ) → Path es a k p → (c m : NodeRecord) → slice_get (nodes_of f) k ≡ Some c
-    → slice_get (nodes_of f) p ≡ Some m → c.value.op.family ≡ Call → m.value.op.family ≡ OutWord → IsWordFor f m.value c.value
-path_words f es steps a k _ (here within) c m ec em call word =
-    absurd (call_is_no_word c.value call (subst (λ (n : NodeRecord). n.value.op.family ≡ OutWord) (same_Some m c (sym em ∙ ec)) word))
-path_words f es steps a k _ (onward p q path apart edge within) c m ec em call word =
-    let low : p < length (nodes_of f) = omega (arith, steps.size, path_within es a k p path) in
+-- what a path along the steps leads back to stands before the call
+path_before : (f : FuncRecord) (es : List (List ℕ)) → AreSteps f (length (nodes_of f)) es → (i : ℕ) (b : BlockRecord) → slice_get f.blocks i ≡ Some b → (k : ℕ) (c : NodeRecord) → slice_get (nodes_of f) k ≡ Some c
+    → c.home ≡ i → is_word_call c.value.op.family ≡ true → (a j : ℕ) → LeadsTo f c j → (p : ℕ) → Path es a j p → (m : NodeRecord) → slice_get (nodes_of f) p ≡ Some m → (m.home ≡ i) × IsBefore f b m.value c.value
+path_before f es steps i b eb k c ec home call a j (o, eo, at, names) _ (here within) m em =
+    let node : o ≡ m = same_Some o m (sym eo ∙ em) in
+    let here' : m.home ≡ i = sym (at ∙ ap (λ (n : NodeRecord). n.home) node) ∙ home in
+    (here', last m.value c.value (home_has f i b j m eb em here') (home_has f i b k c eb ec home) call (subst (λ (n : NodeRecord). Names f c.value n.value.id) node names))
+path_before f es steps i b eb k c ec home call a j leads _ (onward p q path apart edge within) m em =
+    let low : p < length (nodes_of f) = omega (arith, steps.size, path_within es a j p path) in
     let (x, ex) = at_some (nodes_of f) p low in
-    let (b, has) = stands_at f p x ex in
-    let (o, eo, (kind, w, names)) = (steps.edge p x low ex q).0 edge in
-    let named : Names f x.value m.value.id = subst (λ (n : NodeRecord). Names f x.value n.value.id) (same_Some o m (sym eo ∙ em)) names in
-    ⊎_elim
-    (λ (same : p ≡ k).
-    let node : x ≡ c = same_Some x c (sym ex ∙ (ap (slice_get (nodes_of f)) same ∙ ec)) in
-    let (d, there) = stands_at f k c ec in
-    last d m.value c.value there call (subst (λ (n : NodeRecord). Names f n.value m.value.id) node named))
-    (λ (y, ey, is).
-    let out : x.value.op.family ≡ OutWord = subst (λ (n : NodeRecord). n.value.op.family ≡ OutWord) (same_Some y x (sym ey ∙ ex)) is in
-    before b m.value x.value c.value has out named (path_words f es steps a k p path c x ec ex call out))
-    (led_word f es steps a k p path)
+    let (there, rest) = path_before f es steps i b eb k c ec home call a j leads p path x ex in
+    let (phi, other, (o, eo, at, names)) = (steps.edge p x low ex q).0 edge in
+    let node : o ≡ m = same_Some o m (sym eo ∙ em) in
+    let here' : m.home ≡ i = sym (at ∙ ap (λ (n : NodeRecord). n.home) node) ∙ there in (
+      here',
+      before m.value x.value c.value (home_has f i b q m eb em here') (home_has f i b p x eb ex there) phi other (subst (λ (n : NodeRecord). Names f x.value n.value.id) node names) rest,
+    )
 
 -- and the other way round
-pub call_stands : (f : FuncRecord) (u c : ValueRecord) → IsWordFor f u c → ((b : BlockRecord) × HasValue f b c) × (c.op.family ≡ Call)
-call_stands f _ _ (last b u c has call names) = ((b, has), call)
-call_stands f _ _ (before b u w c has word names rest) = call_stands f w c rest
+call_stands : (f : FuncRecord) (b : BlockRecord) (u c : ValueRecord) → IsBefore f b u c → HasValue f b c × (is_word_call c.op.family ≡ true)
+call_stands f b _ _ (last u c hu hc call names) = (hc, call)
+call_stands f b _ _ (before u w c hu hw phi other names rest) = call_stands f b w c rest
 
-pub words_path : (f : FuncRecord) (es : List (List ℕ)) → AreSteps f (length (nodes_of f)) es → (u c : ValueRecord) → IsWordFor f u c → (p k : ℕ) (m o : NodeRecord) → slice_get (nodes_of f) p ≡ Some m
-    → slice_get (nodes_of f) k ≡ Some o → m.value ≡ u → o.value ≡ c → m.value.op.family ≡ OutWord → Path es (length es) k p
-words_path f es steps _ _ (last b u c has call names) p k m o em eo im io word =
-    let low : k < length (nodes_of f) = slice_get_within (nodes_of f) k o eo in
-    let kind : o.value.op.family ≡ Call = ap (λ (v : ValueRecord). v.op.family) io ∙ call in
+before_path : (f : FuncRecord) → AreValues f → (es : List (List ℕ)) → AreSteps f (length (nodes_of f)) es → (i : ℕ) (b : BlockRecord) → slice_get f.blocks i ≡ Some b → (u c : ValueRecord) → IsBefore f b u c
+    → (p k : ℕ) (m o : NodeRecord) → slice_get (nodes_of f) p ≡ Some m → slice_get (nodes_of f) k ≡ Some o → m.value ≡ u → o.value ≡ c → (j : ℕ) × LeadsTo f o j × Path es (length es) j p
+before_path f values es steps i b eb _ _ (last u c hu hc call names) p k m o em eo im io =
+    let home : o.home ≡ m.home = home_is f values i b c k o eb hc.1 eo io ∙ sym (home_is f values i b u p m eb hu.1 em im) in
     let named : Names f o.value m.value.id = subst (λ (v : ValueRecord). Names f v m.value.id) (sym io) (subst (λ (v : ValueRecord). Names f c v.id) (sym im) names) in
-    let edge : IsEdge es k p = (steps.edge k o low eo p).1 (m, em, (inl kind, word, named)) in
-    onward k p (here (omega (arith, steps.size))) (λ e. absurd (omega (arith, steps.size))) edge (omega (arith, steps.size, slice_get_within (nodes_of f) p m em))
-words_path f es steps _ _ (before b u w c has out names rest) p k m o em eo im io word =
-    let (j, z, ez, iz) = place_for f b w has in
-    let low : j < length (nodes_of f) = slice_get_within (nodes_of f) j z ez in
-    let kind : z.value.op.family ≡ OutWord = ap (λ (v : ValueRecord). v.op.family) iz ∙ out in
+    (p, (m, em, home, named), here (omega (arith, steps.size, slice_get_within (nodes_of f) p m em)))
+before_path f values es steps i b eb _ _ (before u w c hu hw phi other names rest) p k m o em eo im io =
+    let (q, z, ez, iz) = place_for f b w hw in
+    let low : q < length (nodes_of f) = slice_get_within (nodes_of f) q z ez in
+    let (j, leads, path) = before_path f values es steps i b eb w c rest q k z o ez eo iz io in
+    let home : z.home ≡ m.home = home_is f values i b w q z eb hw.1 ez iz ∙ sym (home_is f values i b u p m eb hu.1 em im) in
     let named : Names f z.value m.value.id = subst (λ (v : ValueRecord). Names f v m.value.id) (sym iz) (subst (λ (v : ValueRecord). Names f w v.id) (sym im) names) in
-    let edge : IsEdge es j p = (steps.edge j z low ez p).1 (m, em, (inr kind, word, named)) in
-    onward j p (words_path f es steps w c rest j k z o ez eo iz io kind) (λ e. absurd (omega (arith, steps.size))) edge
-    (omega (arith, steps.size, slice_get_within (nodes_of f) p m em))
+    let edge : IsEdge es q p =
+    (steps.edge q z low ez p).1 (λ h. phi (subst IsPhi iz h), ap (λ (v : ValueRecord). is_word_call v.op.family) iz ∙ other, (m, em, home, named)) in
+    (j, leads, onward q p path (λ e. absurd (omega (arith, steps.size))) edge (omega (arith, steps.size, slice_get_within (nodes_of f) p m em)))
 
--- the call at a place
-pub call_at : (s : Setting) (f : FuncRecord) (i : ℕ) (c : NodeRecord) (g : SigRecord) → slice_get (nodes_of f) i ≡ Some c
-    → ((c.value.op.family ≡ Call) × (sig_of s.pkg c.value.aux ≡ Some g)) ↔ IsCallAt s f i g
-call_at s f i c g at = (
-  (λ (call, sig). (c, at, call, sig)),
-  (λ (o, e, call, sig).
-      let same : o ≡ c = same_Some o c (sym e ∙ at) in
-      (subst (λ (n : NodeRecord). n.value.op.family ≡ Call) same call, subst (λ (n : NodeRecord). sig_of s.pkg n.value.aux ≡ Some g) same sig)),
+-- what a call at a place has before it
+pub call_for : (s : Setting) (f : FuncRecord) (es : List (List ℕ)) (i : ℕ) (c : NodeRecord) (P : SigRecord → Type 0) (start : Option ℕ) → slice_get (nodes_of f) i ≡ Some c
+    → ((g : SigRecord) → P g ↔ ((is_word_call c.value.op.family ≡ true) × (sig_of s.pkg c.value.aux ≡ Some g))) → ((q : ℕ) → (start ≡ Some q) ↔ LeadsTo f c q)
+    → (g : SigRecord) (p : ℕ) → (P g × IsFoundFrom es start p) ↔ IsCallFor s f es i p g
+call_for s f es i c P start at is leads g p = (
+  (λ (y, (j, e, path)). let (call, sig) = (is g).0 y in (c, at, call, sig, (j, (leads j).0 e, path))),
+  (λ (o, e, call, sig, (j, led, path)).
+      let same : o ≡ c = same_Some o c (sym e ∙ at) in (
+        (is g).1 (subst (λ (n : NodeRecord). is_word_call n.value.op.family ≡ true) same call, subst (λ (n : NodeRecord). sig_of s.pkg n.value.aux ≡ Some g) same sig),
+        (j, (leads j).1 (subst (λ (n : NodeRecord). LeadsTo f n j) same led), path),
+      )),
 )
 
--- so the calls that paths begin with are those that take the word
-pub taken_by : (s : Setting) (f : FuncRecord) (es : List (List ℕ)) → AreSteps f (length (nodes_of f)) es → (i p : ℕ) (m : NodeRecord) (g : SigRecord) → length (nodes_of f) ≤ i
-    → slice_get (nodes_of f) p ≡ Some m → m.value.op.family ≡ OutWord → IsReachedBy s f es i p m.value g ↔ ArgumentOf s.pkg f m.value g
-taken_by s f es steps i p m g over e word = (to, from)
+-- so the calls from which paths lead back to a word are those that take it
+pub taken_by : (s : Setting) (f : FuncRecord) → AreValues f → (es : List (List ℕ)) → AreSteps f (length (nodes_of f)) es → (i p : ℕ) (m : NodeRecord) (g : SigRecord) → length (nodes_of f) ≤ i
+    → slice_get (nodes_of f) p ≡ Some m → IsReachedBy s f es i p g ↔ ArgumentOf s.pkg f m.value g
+taken_by s f values es steps i p m g over e = (to, from)
   where
-    to : IsReachedBy s f es i p m.value g → ArgumentOf s.pkg f m.value g
-    to (k, l, (c, ec, call, sig), path) = (c.value, path_words f es steps (length es) k p path c m ec e call word, sig)
+    to : IsReachedBy s f es i p g → ArgumentOf s.pkg f m.value g
+    to (k, l, (c, ec, call, sig, (j, leads, path))) =
+        let (h, b, at, eb, inside) = node_stands 0 f.blocks k c ec in
+        let home : c.home ≡ h = omega (arith, at) in
+        (b, c.value, (path_before f es steps h b eb k c ec home call (length es) j leads p path m e).1, sig)
 
-    from : ArgumentOf s.pkg f m.value g → IsReachedBy s f es i p m.value g
-    from (c, takes, sig) =
-        let ((b, has), call) = call_stands f m.value c takes in
+    from : ArgumentOf s.pkg f m.value g → IsReachedBy s f es i p g
+    from (b, c, stands, sig) =
+        let (has, call) = call_stands f b m.value c stands in
+        let (h, eb) = at_contains f.blocks b has.0 in
         let (k, o, eo, io) = place_for f b c has in
-        let low = slice_get_within (nodes_of f) k o eo in
-        (k, omega arith, (o, eo, ap (λ (v : ValueRecord). v.op.family) io ∙ call, ap (λ (v : ValueRecord). sig_of s.pkg v.aux) io ∙ sig), words_path f es steps m.value c takes p k m o e eo refl io word)
+        let low = slice_get_within (nodes_of f) k o eo in (
+          k,
+          omega arith,
+          (
+            o,
+            eo,
+            ap (λ (v : ValueRecord). is_word_call v.op.family) io ∙ call,
+            ap (λ (v : ValueRecord). sig_of s.pkg v.aux) io ∙ sig,
+            before_path f values es steps h b eb m.value c stands p k m o e eo refl io,
+          ),
+        )
 
-pub answered_all : (s : Setting) (f : FuncRecord) (q : Question) (es : List (List ℕ)) (i : ℕ) (bs : List Bool) → AreSteps f (length (nodes_of f)) es → length (nodes_of f) ≤ i
+pub answered_all : (s : Setting) (f : FuncRecord) → AreValues f → (q : Question) (es : List (List ℕ)) (i : ℕ) (bs : List Bool) → AreSteps f (length (nodes_of f)) es → length (nodes_of f) ≤ i
     → AreAnswers f (IsReachedBy s f es i) (Passes s f q) bs → AnswersCalls s f q bs
-answered_all s f q es i bs steps over answers = record {
+answered_all s f values q es i bs steps over answers = record {
   each = λ p m e word. (
-    (λ t. let (g, r, y) = (answers.each p m e).0 t in (g, (taken_by s f es steps i p m g over e word).0 r, y)),
-    (λ (g, a, y). (answers.each p m e).1 (g, (taken_by s f es steps i p m g over e word).1 a, y)),
+    (λ t. let (g, r, y) = (answers.each p m e).0 t in (g, (taken_by s f values es steps i p m g over e).0 r, y)),
+    (λ (g, a, y). (answers.each p m e).1 (g, (taken_by s f values es steps i p m g over e).1 a, y)),
   );
 }
+
+-- a call that names nothing in its block has nothing before it
+pub asked_nowhere : (o : Option SigRecord) (A D : Type 0) (Q : SigRecord → Type 0) → ¬ D → A ↔ (A ⊎ ((g : SigRecord) × (o ≡ Some g) × D × Q g))
+asked_nowhere o A D Q none = ((λ a. inl a), (λ h. ⊎_elim (λ a. a) (λ (g, e, d, q). absurd (none d)) h))
+
+pub found_from : (es : List (List ℕ)) (start : Option ℕ) (k p : ℕ) → start ≡ Some k → Path es (length es) k p ↔ IsFoundFrom es start p
+found_from es start k p is = ((λ path. (k, is, path)), (λ (j, e, path). subst (λ (x : ℕ). Path es (length es) x p) (same_Some j k (sym e ∙ is)) path))
 
 -- a call that has no signature takes no words
 pub asked_none : (o : Option SigRecord) (A D : Type 0) (Q : SigRecord → Type 0) → o ≡ None → A ↔ (A ⊎ ((g : SigRecord) × (o ≡ Some g) × D × Q g))

@@ -1,11 +1,11 @@
 -- Searches from several starts, one after the other, each of which gives its place as the label.
-use Rattle.std.proofs.Common.{◌≡◌, ◌≢◌, ◌∙◌, sym, refl, ap, subst, ℕ, ◌+◌, ◌<◌, ◌≤◌, ◌⊎◌, List, length, get_or, replicate, Option, None, Some, ⊎_elim, arith}
+use Rattle.std.proofs.Common.{◌≡◌, ◌∙◌, sym, ap, subst, ℕ, ◌+◌, ◌<◌, ◌≤◌, List, length, get_or, replicate, Option, None, Some, ⊎_elim, arith}
 use Rattle.std.proofs.lemmas.Bool.{cases_lt}
 use Rattle.std.proofs.lemmas.List.{get_or_past, get_or-replicate, length-replicate}
 use Rattle.std.proofs.lemmas.Option.{none-some, same_Some}
 use Rattle.bk_form.specs.Chains.{AreFirsts}
 use Rattle.bk_form.specs.Search.{Path, IsMarked, Marks, IsClosed, Grows}
-use Rattle.bk_form.proofs.Marking.{marked_or, none_marked, none_closed, marked_still}
+use Rattle.bk_form.proofs.Marking.{marked_or, none_closed, marked_still}
 use Rattle.bk_form.proofs.Reaching.{path_start}
 
 -- the starts below the place are those of which the fact holds

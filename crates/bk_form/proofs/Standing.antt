@@ -1,7 +1,7 @@
 -- Where values and blocks stand, and that a number names one of them.
-use Rattle.std.proofs.Common.{◌≡◌, ◌∙◌, sym, refl, ap, subst, ℕ, zero, suc, ◌+◌, ◌<◌, ◌==◌, ◌⊎◌, List, [], ◌∷◌, ◌++◌, map, length, get_or, Option, None, Some, inl, inr, ⊎_elim, arith, zero-add, add-zero}
+use Rattle.std.proofs.Common.{◌≡◌, ◌∙◌, sym, refl, ap, subst, ℕ, zero, suc, ◌+◌, ◌<◌, ◌⊎◌, List, [], ◌∷◌, ◌++◌, map, length, get_or, Some, inl, inr, ⊎_elim, arith, zero-add, add-zero}
 use Rattle.std.specs.List.{Contains, flat_map, slice_get}
-use Rattle.std.specs.Option.{option_and_then, option_map}
+use Rattle.std.specs.Option.{option_map}
 use Rattle.std.proofs.lemmas.List.{length-map, map-append}
 use Rattle.std.proofs.lemmas.Option.{slice_get_read, slice_get_within, slice_get-map, get_or_from_slice_get, none-some, same_Some}
 use Rattle.bk_func.specs.Records.{ValueRecord, BlockRecord, FuncRecord}
@@ -9,7 +9,7 @@ use Rattle.bk_func.specs.Form.Text.{HasBlock, HasValue}
 use Rattle.bk_func.specs.Form.Parts.{IsBlockNumber, IsValueNumber}
 use Rattle.bk_form.specs.Numbers.{block_ids, value_ids, sole}
 use Rattle.bk_form.specs.Places.{NodeRecord, node_at, nodes_from, nodes_of, node_named}
-use Rattle.bk_form.proofs.Bearers.{IsSole, sole_is, sole_from}
+use Rattle.bk_form.proofs.Bearers.{sole_is, sole_from}
 use Rattle.bk_form.proofs.Symbols.{block_count, value_count}
 
 -- elements of joined lists

@@ -1,11 +1,11 @@
 -- The states that walks carry from block to block, by places.
-use Rattle.std.specs.Prelude.{◌≡◌, ◌↔◌, ℕ, ◌<◌, Bool, true, false, List, [], length, Option, None, Some, MatchOption, cond, slice_index_or, ◌⊎◌}
+use Rattle.std.specs.Prelude.{◌≡◌, ◌↔◌, ℕ, Bool, true, false, List, [], length, Option, None, Some, MatchOption, cond, slice_index_or, ◌⊎◌}
 use Rattle.std.specs.List.{Contains, slice_get}
 use Rattle.bk_func.specs.Records.{BlockRecord, FuncRecord}
 use Rattle.bk_func.specs.Form.Walks.{IsReached}
 use Rattle.bk_func.specs.Form.States.{IsFirstState}
 use Rattle.bk_form.specs.declared.chains.Chain.{Chain}
-use Rattle.bk_form.specs.declared.chains.Chain.TheVariants.{Empty, Linked, Broken}
+use Rattle.bk_form.specs.declared.chains.Chain.TheVariants.{Empty, Linked}
 use Rattle.bk_form.specs.Places.{NodeRecord, nodes_of}
 use Rattle.bk_form.specs.Search.{IsEdge, IsMarked, PathFrom}
 

@@ -1,5 +1,5 @@
 -- The states of blocks as chains, by places.
-use Rattle.std.specs.Prelude.{◌≡◌, ◌↔◌, ℕ, ◌<◌, List, [], ◌∷◌, ◌++◌, length, Option, None, Some, slice_index_or}
+use Rattle.std.specs.Prelude.{◌≡◌, ◌↔◌, ℕ, List, [], ◌∷◌, ◌++◌, length, Option, None, Some, slice_index_or}
 use Rattle.std.specs.List.{Contains, slice_get}
 use Rattle.bk_func.specs.Records.{ValueRecord, BlockRecord, FuncRecord}
 use Rattle.bk_func.specs.Form.Text.{HasBlock}

@@ -1,8 +1,9 @@
 -- What the memory of a function is measured against.
-use Rattle.std.specs.Prelude.{◌≡◌, ◌↔◌, ℕ, ◌+◌, ◌<◌, List, length, Option, Some, None, slice_index_or, ◌⊎◌}
-use Rattle.std.specs.List.{Contains, slice_get}
+use Rattle.std.specs.Prelude.{◌≡◌, ℕ, ◌<◌, false, List, length, Option, Some, None, slice_index_or}
+use Rattle.std.specs.List.{slice_get}
 use Rattle.std.specs.Option.{option_and_then}
-use Rattle.bk_ops.specs.declared.family.Family.TheVariants.{MakeResult, ResWord, SelectN}
+use Rattle.bk_ops.specs.Families.{is_call_result}
+use Rattle.bk_ops.specs.declared.family.Family.TheVariants.{MakeResult}
 use Rattle.bk_ops.specs.declared.types.Ty.TheVariants.{Mem}
 use Rattle.bk_func.specs.Records.{ValueRecord, BlockRecord, FuncRecord}
 use Rattle.bk_func.specs.Form.Text.{HasBlock, HasValue, IsPhi}
@@ -59,7 +60,7 @@ NamesWithin f b v = (s : ℕ) × Names f v s × IsStateIn f b s
 -- and does so, if it must
 abbrev pub NamesRight : FuncRecord → BlockRecord → ValueRecord → Type 0
 NamesRight f b v =
-    (k : ℕ) → ¬ IsPhi v → ¬ (v.op.family ≡ MakeResult) → ¬ (v.op.family ≡ SelectN) → ¬ (v.op.family ≡ ResWord) → IsReached f b → NamesAt v k → k < length v.args → NamesWithin f b v
+    (k : ℕ) → ¬ IsPhi v → ¬ (v.op.family ≡ MakeResult) → is_call_result v.op.family ≡ false → IsReached f b → NamesAt v k → k < length v.args → NamesWithin f b v
 
 -- the number is that of memory which is the block's last state, or of the results of another block which name it
 abbrev pub EndsWith : FuncRecord → BlockRecord → ℕ → Type 0

@@ -1,12 +1,12 @@
 // The values of a function by place, and the edges between its blocks.
-ghost use Rattle.std.specs.Prelude.{◌≡◌, ◌++◌, ◌∷◌, [], IfOk, OnOk, option_map};
-ghost use Rattle.std.specs.List.{filter_map};
+ghost use Rattle.std.specs.Prelude.{◌≡◌, ◌↔◌, ◌++◌, ◌∷◌, [], IfOk, IsTrue, OnOk, Some, option_map};
+ghost use Rattle.std.specs.List.{filter_map, slice_get};
 ghost use Rattle.std.specs.Option.{option_and_then};
 ghost use Rattle.bk_func.specs.Form.{Keeps};
 ghost use Rattle.bk_func.specs.declared.form.FormKind.TheVariants.{Missing};
 ghost use Rattle.bk_form.specs.Names.{IsScope, measure};
 ghost use Rattle.bk_form.specs.Numbers.{NumbersOf, block_ids, block_named, sole};
-ghost use Rattle.bk_form.specs.Places.{node_named};
+ghost use Rattle.bk_form.specs.Places.{NodeRecord, node_named, nodes_of};
 ghost use Rattle.bk_form.specs.Walks.{IsFlow, block_edges};
 
 use crate::names::Scope;
@@ -58,6 +58,17 @@ impl<'a> Flow<'a> {
         ensures { result ≡ option_and_then (sole (block_ids self.now.scope.func.now)) block }
     {
         self.scope.numbers.block(block?)
+    }
+}
+
+/// Whether the value at the place stands in the block.
+pub(crate) fn is_home(flow: &Flow, home: usize, place: usize) -> bool
+    requires { IsFlow flow.now }
+    ensures { IsTrue result ↔ ((o : NodeRecord) × (slice_get (nodes_of flow.now.scope.func.now) place ≡ Some o) × (home ≡ o.home)) }
+{
+    match flow.nodes.get(place) {
+        Some(node) => home == node.home,
+        None => false,
     }
 }
 

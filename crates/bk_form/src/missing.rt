@@ -109,7 +109,7 @@ fn symbol_of(family: Family) -> Symbol
     ensures { seen_symbol result ≡ symbol_of family }
 {
     match family {
-        Family::StaticLECall | Family::Call => Symbol::Func,
+        Family::StaticLECall | Family::Call | Family::CallRegs => Symbol::Func,
         Family::Addr => Symbol::Var,
         Family::Arm(op) => arm_symbol(op),
         Family::Rv(op) => rv_symbol(op),

@@ -9,14 +9,9 @@ ghost use Rattle.bk_form.specs.Places.{value_with, first_named, callee_named};
 
 use crate::numbers::Numbers;
 use crate::places::Node;
-use bk_func::{Aux, Func, Package, Value, Var};
+use bk_func::{Aux, Func, PANIC_DIVIDE, PANIC_SHIFT, Package, Value, Var};
 use bk_ops::{Target, Ty};
 use std::alloc::{AllocError, Global};
-
-/// The symbol of `runtime.panicdivide`, a function without arguments and results.
-pub(crate) const PANIC_DIVIDE: u32 = 4_294_967_294;
-/// The symbol of `runtime.panicshift`, a function without arguments and results.
-pub(crate) const PANIC_SHIFT: u32 = 4_294_967_295;
 
 /// The types of a function's arguments and results.
 #[derive(Clone, Copy)]

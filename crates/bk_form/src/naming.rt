@@ -4,6 +4,7 @@ ghost use Rattle.std.specs.List.{Contains};
 ghost use Rattle.bk_ops.specs.declared.family.Family.TheVariants.{InitMem};
 ghost use Rattle.bk_func.specs.Records.{BlockRecord, ValueRecord};
 ghost use Rattle.bk_func.specs.Form.Text.{HasValue, IsFirstIn};
+ghost use Rattle.bk_func.specs.Form.States.{CopiesMemory};
 ghost use Rattle.bk_ops.specs.Table.{info_of};
 ghost use Rattle.bk_form.specs.Chains.{AreHomes, AreNamed};
 ghost use Rattle.bk_form.specs.Naming.{GivesMemory, GivesState, IsFirstOf, NamesBy, NamesFirst, NamesIf};
@@ -13,7 +14,7 @@ ghost use Rattle.bk_form.specs.Walks.{IsFlow};
 use crate::flow::Flow;
 use crate::places::Node;
 use bk_func::{Block, Func, Value};
-use bk_ops::{Family, Ty, op_info};
+use bk_ops::{Family, Ty, is_call_result, op_info};
 use std::alloc::{AllocError, Global};
 
 /// The place of the state that a value of the function names.
@@ -101,9 +102,15 @@ pub(crate) fn memory_argument(value: &Value) -> Option<u32>
 fn names_first(value: &Value) -> bool
     ensures { IsTrue result ↔ NamesFirst value.now }
 {
+    copies_memory(value) || is_call_result(value.op.family)
+}
+
+/// Whether the value copies memory.
+fn copies_memory(value: &Value) -> bool
+    ensures { IsTrue result ↔ CopiesMemory value.now }
+{
     match value.op.family {
         Family::Copy => value.ty == Ty::Mem,
-        Family::SelectN | Family::ResWord => true,
         _ => false,
     }
 }
@@ -137,10 +144,10 @@ fn gives_state(value: &Value) -> bool
 pub(crate) fn is_first_init(value: &Value, initial: Option<u32>) -> bool
     ensures { IsTrue result ↔ (value.now.op.family ≡ InitMem → initial ≡ Some value.now.id) }
 {
-    if value.op.family != Family::InitMem {
-        return true;
+    match value.op.family {
+        Family::InitMem => initial == Some(value.id),
+        _ => true,
     }
-    initial == Some(value.id)
 }
 
 /// The number of the first `InitMem` of the entry.
@@ -169,5 +176,8 @@ pub(crate) fn init_in(block: &Block) -> Option<u32>
 fn is_init(value: &Value) -> bool
     ensures { IsTrue result ↔ (value.now.op.family ≡ InitMem) }
 {
-    value.op.family == Family::InitMem
+    match value.op.family {
+        Family::InitMem => true,
+        _ => false,
+    }
 }

@@ -14,13 +14,13 @@ ghost use Rattle.bk_form.specs.Sent.{IsClear};
 ghost use Rattle.bk_form.specs.Walks.{IsFlow};
 
 use crate::Place;
-use crate::flow::Flow;
+use crate::flow::{Flow, is_home};
 use crate::groups::{groups_of, members};
 use crate::places::Node;
 use crate::rounds::first_round;
 use crate::search::{Edges, Search, entry};
 use bk_func::Value;
-use bk_ops::{ArmOp, Family, RvOp, Ty};
+use bk_ops::{ArmOp, Family, RvOp, Ty, is_word_result};
 use std::alloc::{AllocError, Global};
 
 /// What a value does with the state that it names.
@@ -91,7 +91,10 @@ fn taken(alloc: Global, flow: &Flow, node: &Node) -> Result<Vec<usize>, AllocErr
 fn is_phi(value: &Value) -> bool
     ensures { IsTrue result ↔ IsPhi value.now }
 {
-    value.op.family == Family::Phi
+    match value.op.family {
+        Family::Phi => true,
+        _ => false,
+    }
 }
 
 /// The places of the values with these numbers that stand in the block.
@@ -120,17 +123,6 @@ fn place_in(flow: &Flow, home: usize, id: u32) -> Option<usize>
         Some(place)
     } else {
         None
-    }
-}
-
-/// Whether the value at the place stands in the block.
-fn is_home(flow: &Flow, home: usize, place: usize) -> bool
-    requires { IsFlow flow.now }
-    ensures { IsTrue result ↔ ((o : NodeRecord) × (slice_get (nodes_of flow.now.scope.func.now) place ≡ Some o) × (home ≡ o.home)) }
-{
-    match flow.nodes.get(place) {
-        Some(node) => home == node.home,
-        None => false,
     }
 }
 
@@ -239,9 +231,8 @@ fn is_result(value: &Value) -> bool
     ensures { IsTrue result ↔ IsResult value.now }
 {
     match value.op.family {
-        Family::ResWord => true,
         Family::SelectN => value.ty != Ty::Mem,
-        _ => false,
+        _ => is_word_result(value.op.family),
     }
 }
 

@@ -1,28 +1,28 @@
 // The words that calls take as arguments.
-ghost use Rattle.std.specs.Prelude.{◌≡◌, ◌↔◌, ◌⊎◌, ℕ, IsTrue, IfOk, OnOk, MatchOption, Some, true, false, length, option_map, replicate, slice_index_or, slice_set, if◌then◌else◌};
+ghost use Rattle.std.specs.Prelude.{◌≡◌, ◌↔◌, ◌⊎◌, ℕ, IsTrue, IfOk, OnOk, Some, true, false, length, option_map, replicate, slice_index_or, slice_set, if◌then◌else◌};
 ghost use Rattle.std.specs.List.{Contains, slice_get};
-ghost use Rattle.bk_ops.specs.declared.family.Family.TheVariants.{Call as CallFamily, OutWord};
-ghost use Rattle.bk_func.specs.Records.{BlockRecord, ValueRecord, SigRecord};
-ghost use Rattle.bk_func.specs.Form.Text.{HasValue};
+ghost use Rattle.bk_ops.specs.Families.{is_word_call};
+ghost use Rattle.bk_func.specs.Records.{ValueRecord, SigRecord};
+ghost use Rattle.bk_func.specs.Form.Text.{IsPhi};
 ghost use Rattle.bk_func.specs.Form.Signatures.{sig_of};
 ghost use Rattle.bk_func.specs.Form.Shapes.{FitsWordOf};
 ghost use Rattle.bk_form.specs.Names.{IsScope, measure, seen_callee};
 ghost use Rattle.bk_form.specs.Places.{NodeRecord, nodes_of, first_named, mark_of};
 ghost use Rattle.bk_form.specs.Roots.{AreRoots};
-ghost use Rattle.bk_form.specs.Search.{Path};
-ghost use Rattle.bk_form.specs.Sent.{Passes, LeadsTo, AreSteps, AnswersCalls, IsClear};
+ghost use Rattle.bk_form.specs.Sent.{Passes, LeadsTo, StepsTo, IsFoundFrom, AreSteps, AnswersCalls, IsClear};
 ghost use Rattle.bk_form.specs.Walks.{IsFlow};
 
-use crate::flow::Flow;
+use crate::flow::{Flow, is_home};
 use crate::names::{Callee, Scope};
 use crate::naming::named;
+use crate::places::Node;
 use crate::search::{Edges, Search};
 use crate::words::{fits_word, is_argument_word};
 use bk_func::Value;
-use bk_ops::Family;
+use bk_ops::{is_phi, is_word_call};
 use std::alloc::{AllocError, Global};
 
-/// What is asked of a word and of the signature of a call that takes it.
+/// What is asked of a word and of the signature of the call behind it.
 #[derive(Clone, Copy)]
 pub(crate) enum Question {
     /// Whether what stands in the word does not fit the signature's word with this number.
@@ -31,7 +31,7 @@ pub(crate) enum Question {
     Counted,
 }
 
-/// For each word whether the answer is yes for a call that takes it.
+/// For each word whether the answer is yes for a call that is the next one behind it.
 pub(crate) fn answers(
     alloc: Global,
     flow: &Flow,
@@ -43,30 +43,33 @@ pub(crate) fn answers(
     ensures { IfOk result (λ answers. AnswersCalls (measure flow.now.scope) flow.now.scope.func.now question answers.items) }
 {
     let steps = steps(alloc, flow, roots)?;
-    answers_along(alloc, flow, &steps, question)
+    answers_along(alloc, flow, roots, &steps, question)
 }
 
-/// The same, given the words behind calls and words.
+/// The same, given the steps back from what calls name.
 fn answers_along(
     alloc: Global,
     flow: &Flow,
+    roots: &[Option<usize>],
     steps: &Edges,
     question: Question,
 ) -> Result<Vec<bool>, AllocError>
     requires flow { IsFlow flow.now }
+    requires roots { AreRoots flow.now.scope.func.now roots.now }
     requires steps { AreSteps flow.now.scope.func.now (length (nodes_of flow.now.scope.func.now)) steps.now }
     ensures { IfOk result (λ answers. AnswersCalls (measure flow.now.scope) flow.now.scope.func.now question answers.items) }
 {
     let mut search = Search::new(alloc, steps.len())?;
     let mut answers = all_no(alloc, flow.nodes.len())?;
-    for (place, node) in flow.nodes.iter().enumerate() {
+    for node in &flow.nodes {
         let callee = call_by(&flow.scope, node.value);
+        let before = named_beside(flow, roots, node);
         ask(
             &mut answers,
             &mut search,
             flow,
             steps,
-            place,
+            before,
             callee,
             question,
         )?;
@@ -82,13 +85,13 @@ fn all_no(alloc: Global, places: usize) -> Result<Vec<bool>, AllocError>
     Ok(answers)
 }
 
-/// Notes the answers for the words that the call at the place takes, if its signature is given.
+/// Notes the answers for what a call with this signature has before it, given the place of what it names.
 fn ask(
     answers: &mut Vec<bool>,
     search: &mut Search,
     flow: &Flow,
     steps: &Edges,
-    place: usize,
+    before: Option<usize>,
     callee: Option<Callee>,
     question: Question,
 ) -> Result<(), AllocError>
@@ -97,10 +100,11 @@ fn ask(
     requires size { length answers.old.items ≡ length (nodes_of flow.now.scope.func.now) }
     ensures clear { OnOk result (IsClear (length steps.now) search.new) }
     ensures size { OnOk result (length answers.new.items ≡ length answers.old.items) }
-    ensures each { OnOk result ((p : ℕ) (m : NodeRecord) → slice_get (nodes_of flow.now.scope.func.now) p ≡ Some m → (slice_index_or answers.new.items p false ≡ true) ↔ ((slice_index_or answers.old.items p false ≡ true) ⊎ ((g : SigRecord) × (option_map seen_callee callee.entry ≡ Some g) × Path steps.now (length steps.now) place p × Passes (measure flow.now.scope) flow.now.scope.func.now question g m.value))) }
+    ensures each { OnOk result ((p : ℕ) (m : NodeRecord) → slice_get (nodes_of flow.now.scope.func.now) p ≡ Some m → (slice_index_or answers.new.items p false ≡ true) ↔ ((slice_index_or answers.old.items p false ≡ true) ⊎ ((g : SigRecord) × (option_map seen_callee callee.entry ≡ Some g) × IsFoundFrom steps.now before p × Passes (measure flow.now.scope) flow.now.scope.func.now question g m.value))) }
 {
     let Some(callee) = callee else { return Ok(()) };
-    search.extend(steps, steps.len(), place, place)?;
+    let Some(start) = before else { return Ok(()) };
+    search.extend(steps, steps.len(), start, start)?;
     note(answers, flow, &search.reached, callee, question);
     search.clear();
     Ok(())
@@ -163,15 +167,16 @@ fn is_misfit(scope: &Scope, word: &Value, callee: Callee) -> bool
 /// The signature of the call of words that the value is, if it is one.
 fn call_by<'a>(scope: &Scope<'a>, value: &Value) -> Option<Callee<'a>>
     requires { IsScope scope.now }
-    ensures { (g : SigRecord) → (option_map seen_callee result ≡ Some g) ↔ ((value.now.op.family ≡ CallFamily) × (sig_of scope.now.pkg.now value.now.aux ≡ Some g)) }
+    ensures { (g : SigRecord) → (option_map seen_callee result ≡ Some g) ↔ ((is_word_call value.now.op.family ≡ true) × (sig_of scope.now.pkg.now value.now.aux ≡ Some g)) }
 {
-    match value.op.family {
-        Family::Call => scope.callee_of(value.aux),
-        _ => None,
+    if is_word_call(value.op.family) {
+        scope.callee_of(value.aux)
+    } else {
+        None
     }
 }
 
-/// Behind the place of each call and word that of the word that it names.
+/// Behind the place of each value that is neither a phi nor a call that of what it names in its block.
 fn steps(alloc: Global, flow: &Flow, roots: &[Option<usize>]) -> Result<Edges, AllocError>
     requires flow { IsFlow flow.now }
     requires roots { AreRoots flow.now.scope.func.now roots.now }
@@ -179,79 +184,57 @@ fn steps(alloc: Global, flow: &Flow, roots: &[Option<usize>]) -> Result<Edges, A
 {
     let mut steps = Edges::with_capacity(alloc, flow.nodes.len())?;
     for node in &flow.nodes {
-        let behind = words_behind(alloc, flow, roots, node.value)?;
+        let behind = step(alloc, flow, roots, node)?;
         steps.push(behind)?;
     }
     Ok(steps)
 }
 
-/// The places of the words that the value names: one or none.
-fn words_behind(
+/// The place of what the value names in its block, if it is neither a phi nor a call: one or none.
+fn step(
     alloc: Global,
     flow: &Flow,
     roots: &[Option<usize>],
-    value: &Value,
+    node: &Node,
 ) -> Result<Vec<usize>, AllocError>
     requires flow { IsFlow flow.now }
     requires roots { AreRoots flow.now.scope.func.now roots.now }
-    requires value { (b : BlockRecord) × HasValue flow.now.scope.func.now b value.now }
-    ensures { IfOk result (λ places. (q : ℕ) → Contains places.items q ↔ LeadsTo flow.now.scope.func.now value.now q) }
+    requires node { Contains (nodes_of flow.now.scope.func.now) node.now }
+    ensures { IfOk result (λ places. (q : ℕ) → Contains places.items q ↔ StepsTo flow.now.scope.func.now node.now q) }
 {
-    let behind = word_behind(flow, roots, value);
-    let Some(place) = behind else {
+    let before = named_beside(flow, roots, node);
+    let Some(place) = before else {
         return Ok(Vec::new(alloc))
     };
+    let ends = ends_search(node.value);
+    if ends {
+        return Ok(Vec::new(alloc));
+    }
     let mut places = Vec::with_capacity(alloc, 1)?;
     places.push(place)?;
     Ok(places)
 }
 
-/// The place of the word that the value names, if it is a call or a word itself.
-fn word_behind(flow: &Flow, roots: &[Option<usize>], value: &Value) -> Option<usize>
+/// Whether a search back ends with the value: a phi, or the call before.
+fn ends_search(value: &Value) -> bool
+    ensures { IsTrue result ↔ IsPhi value.now ⊎ (is_word_call value.now.op.family ≡ true) }
+{
+    is_phi(value.op.family) || is_word_call(value.op.family)
+}
+
+/// The place of what the value names in its block.
+fn named_beside(flow: &Flow, roots: &[Option<usize>], node: &Node) -> Option<usize>
     requires flow { IsFlow flow.now }
     requires roots { AreRoots flow.now.scope.func.now roots.now }
-    requires value { (b : BlockRecord) × HasValue flow.now.scope.func.now b value.now }
-    ensures { MatchOption result ((q : ℕ) → ¬ LeadsTo flow.now.scope.func.now value.now q) (λ p. (q : ℕ) → LeadsTo flow.now.scope.func.now value.now q ↔ (q ≡ p)) }
+    requires node { Contains (nodes_of flow.now.scope.func.now) node.now }
+    ensures { (q : ℕ) → (result ≡ Some q) ↔ LeadsTo flow.now.scope.func.now node.now q }
 {
-    if !names_words(value) {
-        return None;
-    }
-    let found = named(flow, roots, value);
+    let found = named(flow, roots, node.value);
     let Some(place) = found else { return None };
-    if is_word_at(flow, place) {
+    if is_home(flow, node.home, place) {
         Some(place)
     } else {
         None
-    }
-}
-
-/// Whether the value is a call or a word, which name the word before them.
-fn names_words(value: &Value) -> bool
-    ensures { IsTrue result ↔ ((value.now.op.family ≡ CallFamily) ⊎ (value.now.op.family ≡ OutWord)) }
-{
-    match value.op.family {
-        Family::Call | Family::OutWord => true,
-        _ => false,
-    }
-}
-
-/// Whether a word stands at the place.
-fn is_word_at(flow: &Flow, place: usize) -> bool
-    requires { IsFlow flow.now }
-    ensures { IsTrue result ↔ ((m : NodeRecord) × (slice_get (nodes_of flow.now.scope.func.now) place ≡ Some m) × (m.value.op.family ≡ OutWord)) }
-{
-    match flow.nodes.get(place) {
-        Some(node) => is_word(node.value),
-        None => false,
-    }
-}
-
-fn is_word(value: &Value) -> bool
-    ensures { IsTrue result ↔ (value.now.op.family ≡ OutWord) }
-{
-    match value.op.family {
-        Family::OutWord => true,
-        _ => false,
     }
 }
 

@@ -56,7 +56,7 @@ pub(crate) fn slot_of(op: Op, index: usize) -> Slot
         Family::Int64Make | Family::AddHi32 | Family::SubHi32 => Slot::Bits(32),
         Family::Int64Hi | Family::Int64Lo => Slot::Bits(64),
         Family::Addr => Slot::Base,
-        Family::SelectN | Family::ResWord => Slot::Call,
+        Family::SelectN | Family::ResWord | Family::ResReg => Slot::Call,
         Family::Store => if index == 1 {
             Slot::Stored
         } else {
@@ -80,6 +80,7 @@ pub(crate) fn slot_of(op: Op, index: usize) -> Slot
         Family::SignExt | Family::ZeroExt | Family::Trunc => Slot::Bits(op.a),
         Family::Arg | Family::InitMem | Family::Sp | Family::Sb => Slot::Bits(op.a),
         Family::StaticLECall | Family::MakeResult | Family::ArgWord => Slot::Bits(op.a),
+        Family::ArgReg | Family::CallRegs | Family::RetRegs => Slot::Bits(op.a),
     }
 }
 

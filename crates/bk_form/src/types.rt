@@ -4,13 +4,13 @@ ghost use Rattle.std.specs.List.{All, slice_get};
 ghost use Rattle.std.specs.Option.{option_copied};
 ghost use Rattle.bk_ops.specs.Table.{info_of, is_op};
 ghost use Rattle.bk_ops.specs.declared.family.Family.TheVariants.{OutWord, MakeResult, Sb};
-ghost use Rattle.bk_ops.specs.declared.types.Ty.TheVariants.{Mem};
+ghost use Rattle.bk_ops.specs.declared.types.Ty.TheVariants.{Bool as Truth, Mem};
 ghost use Rattle.bk_func.specs.declared.parts.Kind.TheVariants.{Ret};
 ghost use Rattle.bk_func.specs.Records.{ValueRecord, BlockRecord, SigRecord};
 ghost use Rattle.bk_func.specs.Form.Text.{HasBlock, HasValue};
-ghost use Rattle.bk_func.specs.Form.Signatures.{ResultOf, ArgumentOf};
+ghost use Rattle.bk_func.specs.Form.Signatures.{ResultOf, ArgumentOf, in_registers};
 ghost use Rattle.bk_func.specs.Form.Parts.{IsValueNumber};
-ghost use Rattle.bk_func.specs.Form.Shapes.{HasControlType, FitsControl, IsMemory, HasTypes, Gives, GivesWord, GivesResults, GivesByType, GivesList, GivesArgument, GivesResult, FitsAux, FitsPlace, FitsList, FitsSlot, FitsStored, FitsWordOf, IsAlike, IsData, IsFree, call_family, argument};
+ghost use Rattle.bk_func.specs.Form.Shapes.{HasControlType, FitsControl, IsMemory, HasTypes, Gives, GivesWord, GivesResults, GivesByType, GivesList, GivesArgument, GivesResult, FitsAux, FitsPlace, FitsList, FitsSlot, FitsStored, FitsWordOf, FitsPlaceOf, IsAlike, IsData, IsFree, is_call_of, argument};
 ghost use Rattle.bk_form.specs.Finds.{Finds, FindsIn};
 ghost use Rattle.bk_form.specs.Names.{IsScope, measure, seen_callee};
 ghost use Rattle.bk_form.specs.Places.{AllNamed, root_with};
@@ -26,9 +26,9 @@ use crate::names::{Callee, Scope};
 use crate::places::Node;
 use crate::sent::{Question, answers, is_marked};
 use crate::shape::{Slot, alike, is_data, is_op, slot_of, word_width};
-use crate::words::{fits_word, place_of};
+use crate::words::{fits_place, fits_word, in_registers, place_of};
 use bk_func::{Aux, Block, Kind, Value};
-use bk_ops::{Class, Family, Ty, op_info, width};
+use bk_ops::{Class, Family, Ty, is_word_call, op_info, width};
 use std::alloc::{AllocError, Global};
 
 /// The first block whose control, or value that itself or its arguments, do not have the types they should.
@@ -115,7 +115,7 @@ fn kind_fits(scope: &Scope, roots: &[Option<usize>], control: &Value, kind: Kind
 {
     match kind {
         Kind::Plain | Kind::First => true,
-        Kind::If => control.ty == Ty::Bool,
+        Kind::If => is_free_truth(control),
         Kind::Ret => is_ending(scope, roots, control),
         Kind::Exit => is_state(scope, roots, control),
     }
@@ -130,7 +130,7 @@ fn is_ending(scope: &Scope, roots: &[Option<usize>], control: &Value) -> bool
     ensures { IsTrue result ↔ FitsControl (measure scope.now) scope.now.func.now control.now Ret }
 {
     match control.op.family {
-        Family::MakeResult | Family::RetWord => true,
+        Family::MakeResult | Family::RetWord | Family::RetRegs => true,
         _ => has_no_results(scope) && is_memory(scope, roots, control),
     }
 }
@@ -295,6 +295,8 @@ fn gives_word(scope: &Scope, value: &Value) -> bool
     match value.op.family {
         Family::ArgWord => fits_own_word(scope, value.int, value.ty),
         Family::ResWord => gives_result_word(scope, value),
+        Family::ArgReg => fits_own_register(scope, value.int, value.ty),
+        Family::ResReg => gives_result_register(scope, value),
         _ => width(value.ty, scope.target) == word_width(scope.target),
     }
 }
@@ -313,6 +315,34 @@ fn gives_result_word(scope: &Scope, value: &Value) -> bool
     ensures { IsTrue result ↔ IsData (measure scope.now) value.now.ty × ((g : SigRecord) → ResultOf scope.now.pkg.now scope.now.func.now value.now g → FitsWordOf (measure scope.now) g value.now.int value.now.ty) }
 {
     is_data(value.ty, scope.target) && fits_word_of_result(scope, value)
+}
+
+/// Whether the type is one of data that fits the argument of the function that is passed in this register.
+fn fits_own_register(scope: &Scope, int: i64, ty: Ty) -> bool
+    ensures { IsTrue result ↔ IsData (measure scope.now) ty × FitsPlaceOf (measure scope.now) scope.now.func.now.sig.args int ty }
+{
+    is_data(ty, scope.target) && fits_place(scope, scope.own().args, int, ty)
+}
+
+/// Whether the value is one of data that fits the result of its call that is passed in its register.
+fn gives_result_register(scope: &Scope, value: &Value) -> bool
+    requires scope { IsScope scope.now }
+    requires named { All (IsValueNumber scope.now.func.now) value.now.args }
+    ensures { IsTrue result ↔ IsData (measure scope.now) value.now.ty × ((g : SigRecord) → ResultOf scope.now.pkg.now scope.now.func.now value.now g → FitsPlaceOf (measure scope.now) g.results value.now.int value.now.ty) }
+{
+    is_data(value.ty, scope.target) && fits_result(scope, value)
+}
+
+/// Whether the value fits the result of its call with its number, if the signature has one.
+fn fits_result(scope: &Scope, value: &Value) -> bool
+    requires scope { IsScope scope.now }
+    requires named { All (IsValueNumber scope.now.func.now) value.now.args }
+    ensures { IsTrue result ↔ ((g : SigRecord) → ResultOf scope.now.pkg.now scope.now.func.now value.now g → FitsPlaceOf (measure scope.now) g.results value.now.int value.now.ty) }
+{
+    match scope.call_of(value) {
+        Some(callee) => fits_place(scope, callee.results, value.int, value.ty),
+        None => true,
+    }
 }
 
 /// Whether the value fits its word of the results of its call, if the signature has one.
@@ -445,6 +475,8 @@ fn place_fits(scope: &Scope, value: &Value, place: usize, arg: &Value, word_fits
     match value.op.family {
         Family::StaticLECall => list_fits(scope, scope.callee_of(value.aux), place, arg),
         Family::MakeResult => types_fit(scope, scope.own().results, place, arg),
+        Family::CallRegs => registers_fit(scope, scope.callee_of(value.aux), place, arg),
+        Family::RetRegs => own_registers_fit(scope, place, arg),
         _ => slot_fits(scope, value, arg, slot_of(value.op, place), word_fits),
     }
 }
@@ -457,6 +489,24 @@ fn list_fits(scope: &Scope, callee: Option<Callee>, place: usize, arg: &Value) -
         Some(callee) => types_fit(scope, callee.args, place, arg),
         None => false,
     }
+}
+
+/// The same of the list of those of them that are passed in registers.
+fn registers_fit(scope: &Scope, callee: Option<Callee>, place: usize, arg: &Value) -> bool
+    ensures { IsTrue result ↔ FitsList (measure scope.now) (option_map seen_callee callee.entry) (λ g. in_registers (measure scope.now) g.args) place arg.now }
+{
+    match callee {
+        Some(callee) => types_fit(scope, in_registers(callee.args, scope.target), place, arg),
+        None => false,
+    }
+}
+
+/// Whether the argument fits the place of the function's results that are passed in registers.
+fn own_registers_fit(scope: &Scope, place: usize, arg: &Value) -> bool
+    ensures { IsTrue result ↔ FitsList (measure scope.now) (Some scope.now.func.now.sig) (λ g. in_registers (measure scope.now) g.results) place arg.now }
+{
+    let results = in_registers(scope.own().results, scope.target);
+    types_fit(scope, results, place, arg)
 }
 
 /// Whether the argument fits the place of a list of types with memory behind it.
@@ -482,6 +532,12 @@ fn is_free_data(scope: &Scope, arg: &Value) -> bool
     is_free(arg) && is_data(arg.ty, scope.target)
 }
 
+fn is_free_truth(arg: &Value) -> bool
+    ensures { IsTrue result ↔ IsFree arg.now × (arg.now.ty ≡ Truth) }
+{
+    is_free(arg) && arg.ty == Ty::Bool
+}
+
 fn is_base(arg: &Value) -> bool
     ensures { IsTrue result ↔ (arg.now.op.family ≡ Sb) }
 {
@@ -499,7 +555,7 @@ fn slot_fits(scope: &Scope, value: &Value, arg: &Value, slot: Slot, word_fits: b
     match slot {
         Slot::Bits(wanted) => is_free(arg) && bits == wanted as u32,
         Slot::Word => is_free(arg) && bits == word_width(scope.target),
-        Slot::Bool => arg.ty == Ty::Bool,
+        Slot::Bool => is_free_truth(arg),
         Slot::Mem => arg.ty == Ty::Mem,
         Slot::Same => same_fits(scope, value.ty, arg),
         Slot::Stored => stored_fits(scope, value.aux, arg),
@@ -534,18 +590,15 @@ fn is_word_fit(scope: &Scope, value: &Value, arg: &Value) -> bool
     is_free(arg) && fits_own_word(scope, value.int, arg.ty)
 }
 
-/// Whether the argument is of the kind of call whose results the op takes.
+/// Whether the argument is a call of the family whose results the op takes.
 fn is_call_for(family: Family, arg: Family) -> bool
-    ensures { IsTrue result ↔ (arg ≡ call_family family) }
+    ensures { result ≡ is_call_of family arg }
 {
     match family {
         Family::SelectN => match arg {
             Family::StaticLECall => true,
             _ => false,
         },
-        _ => match arg {
-            Family::Call => true,
-            _ => false,
-        },
+        _ => is_word_call(arg),
     }
 }

@@ -6,7 +6,7 @@ ghost use Rattle.bk_ops.specs.declared.table.AuxKind.TheVariants.{Int as IntKind
 ghost use Rattle.bk_func.specs.Records.{BlockRecord, SigRecord};
 ghost use Rattle.bk_func.specs.Form.Text.{HasBlock, HasValue};
 ghost use Rattle.bk_func.specs.Form.Signatures.{ResultOf};
-ghost use Rattle.bk_func.specs.Form.Parts.{HasRange, InRange, IsSigned, IsBetween, IsResultWord, IsValueNumber};
+ghost use Rattle.bk_func.specs.Form.Parts.{HasRange, InRange, IsSigned, IsBetween, IsInRegister, IsResultWord, IsValueNumber};
 ghost use Rattle.bk_form.specs.Finds.{Finds, FindsIn};
 ghost use Rattle.bk_form.specs.Names.{IsScope, measure, seen_callee};
 ghost use Rattle.bk_form.specs.Places.{AllNamed};
@@ -19,7 +19,7 @@ use crate::Place;
 use crate::flow::Flow;
 use crate::names::{Callee, Scope};
 use crate::sent::{Question, answers, is_marked};
-use crate::words::{is_argument_word, is_between, is_result_word};
+use crate::words::{is_argument_word, is_between, is_in_register, is_result_word};
 use bk_func::{Block, Value};
 use bk_ops::{AuxKind, Family, op_info};
 use std::alloc::{AllocError, Global};
@@ -103,7 +103,9 @@ fn is_in_range(scope: &Scope, counted: &[bool], value: &Value) -> bool
         Family::RetWord => is_result_word(scope, scope.own(), value.int),
         Family::OutWord => is_marked(scope, counted, value),
         Family::ResWord => is_word_of_result(scope, value),
-        _ => true,
+        Family::ArgReg => is_in_register(scope, scope.own().args, value.int),
+        Family::ResReg => is_register_of_result(scope, value),
+        _ => is_signed(64, value.int),
     }
 }
 
@@ -147,6 +149,18 @@ fn is_word_of_result(scope: &Scope, value: &Value) -> bool
 {
     match scope.call_of(value) {
         Some(callee) => is_result_word(scope, callee, value.int),
+        None => false,
+    }
+}
+
+/// Whether the number is that of a result of the value's call that is passed in a register.
+fn is_register_of_result(scope: &Scope, value: &Value) -> bool
+    requires scope { IsScope scope.now }
+    requires named { All (IsValueNumber scope.now.func.now) value.now.args }
+    ensures { IsTrue result ↔ ((g : SigRecord) × ResultOf scope.now.pkg.now scope.now.func.now value.now g × IsInRegister (measure scope.now) g.results value.now.int) }
+{
+    match scope.call_of(value) {
+        Some(callee) => is_in_register(scope, callee.results, value.int),
         None => false,
     }
 }

@@ -1,61 +1,25 @@
-// The machine words of signatures, and the numbers beside ops that count them.
-ghost use Rattle.std.specs.Prelude.{◌≡◌, ◌≢◌, ◌↔◌, ℕ, pos, IsTrue, MatchOption};
+// The places of signatures, and the numbers beside ops that count them.
+ghost use Rattle.std.specs.Prelude.{◌≡◌, ◌≢◌, ◌↔◌, ℕ, pos, IsTrue, MatchOption, length, take};
 ghost use Rattle.std.specs.List.{slice_get};
-ghost use Rattle.bk_func.specs.Form.Signatures.{words_of_type, words_of, words_of_sig};
-ghost use Rattle.bk_func.specs.Form.Parts.{IsBetween, IsArgumentWord, IsResultWord};
-ghost use Rattle.bk_func.specs.Form.Shapes.{FitsWordOf};
-ghost use Rattle.bk_func.specs.Words.{is_double};
+ghost use Rattle.bk_func.specs.Form.Parts.{IsBetween, IsArgumentWord, IsResultWord, IsInRegister};
+ghost use Rattle.bk_func.specs.Form.Shapes.{FitsPlaceOf, FitsWordOf, IsAlike};
+ghost use Rattle.bk_func.specs.Words.{register_words};
 ghost use Rattle.bk_form.specs.Names.{measure, seen_callee};
 
 use crate::names::{Callee, Scope};
 use crate::shape::alike;
-use bk_func::{count_words, words_of_type};
+use bk_func::register_words;
 use bk_ops::{Target, Ty};
 
-/// Whether a value of the type takes two machine words.
-fn is_pair(ty: Ty, target: Target) -> bool
-    ensures { result ≡ is_double target ty }
+/// Of these arguments or results those that a call passes in registers.
+pub(crate) fn in_registers(types: &[Ty], target: Target) -> &[Ty]
+    ensures { result.now ≡ take (register_words target) types.now }
 {
-    words_of_type(target, ty) == 2
-}
-
-/// The machine word at the place among those of a value of the type.
-fn word_of(ty: Ty, place: usize, target: Target) -> Option<Ty>
-    ensures { result ≡ slice_get (words_of_type target ty) place }
-{
-    if is_pair(ty, target) {
-        if place < 2 { Some(Ty::Uint32) } else { None }
-    } else if place == 0 {
-        Some(ty)
+    let count = register_words(target) as usize;
+    if types.len() <= count {
+        types
     } else {
-        None
-    }
-}
-
-/// The machine word at the place among those of values of the types.
-fn word_at(types: &[Ty], place: usize, target: Target) -> Option<Ty>
-    ensures { result ≡ slice_get (words_of target types.now) place }
-{
-    let mut left = place;
-    for ty in types {
-        let count = words_of_type(target, *ty) as usize;
-        if left < count {
-            return word_of(*ty, left, target);
-        }
-        left -= count;
-    }
-    None
-}
-
-/// The machine word at the place among those of the signature.
-fn word_of_sig(callee: Callee, place: usize, target: Target) -> Option<Ty>
-    ensures { result ≡ slice_get (words_of_sig target (seen_callee callee.entry)) place }
-{
-    let args = count_words(target, callee.args) as usize;
-    if place < args {
-        word_at(callee.args, place, target)
-    } else {
-        word_at(callee.results, place - args, target)
+        &types[..count]
     }
 }
 
@@ -79,34 +43,69 @@ pub(crate) fn is_between(int: i64, low: u64, high: u64) -> bool
     }
 }
 
-/// Whether the number is that of a word of the arguments.
+/// Whether the number is that of a place of the arguments.
 pub(crate) fn is_argument_word(scope: &Scope, callee: Callee, int: i64) -> bool
     ensures { IsTrue result ↔ IsArgumentWord (measure scope.now) (seen_callee callee.entry) int }
 {
-    is_between(int, 0, count_words(scope.target, callee.args))
+    is_between(int, 0, callee.args.len() as u64)
 }
 
-/// Whether the number is that of a word of the results, which follow those of the arguments.
+/// Whether the number is that of a place of the results, which follow those of the arguments.
 pub(crate) fn is_result_word(scope: &Scope, callee: Callee, int: i64) -> bool
     ensures { IsTrue result ↔ IsResultWord (measure scope.now) (seen_callee callee.entry) int }
 {
-    let args = count_words(scope.target, callee.args);
-    let results = count_words(scope.target, callee.results);
     match place_of(int) {
-        Some(place) => args <= place as u64 && place as u64 - args < results,
+        Some(place) => callee.args.len() <= place
+            && place - callee.args.len() < callee.results.len(),
         None => false,
     }
 }
 
-/// Whether a value of the type fits the word with this number, where the signature has one.
+/// Whether the number is that of one of the arguments or results that is passed in a register.
+pub(crate) fn is_in_register(scope: &Scope, types: &[Ty], int: i64) -> bool
+    ensures { IsTrue result ↔ IsInRegister (measure scope.now) types.now int }
+{
+    is_between(int, 0, in_registers(types, scope.target).len() as u64)
+}
+
+/// Whether a value of the type fits the place of the signature with this number, where there is one.
 pub(crate) fn fits_word(scope: &Scope, callee: Callee, int: i64, ty: Ty) -> bool
     ensures { IsTrue result ↔ FitsWordOf (measure scope.now) (seen_callee callee.entry) int ty }
 {
     match place_of(int) {
-        Some(place) => match word_of_sig(callee, place, scope.target) {
-            Some(word) => alike(word, ty, scope.target),
-            None => true,
-        },
+        Some(place) => fits_of_sig(scope, callee, place, ty),
+        None => true,
+    }
+}
+
+/// Whether a value of the type fits the one of the places with this number, where there is one.
+pub(crate) fn fits_place(scope: &Scope, types: &[Ty], int: i64, ty: Ty) -> bool
+    ensures { IsTrue result ↔ FitsPlaceOf (measure scope.now) types.now int ty }
+{
+    match place_of(int) {
+        Some(place) => fits_at(scope, types, place, ty),
+        None => true,
+    }
+}
+
+/// Whether a value of the type fits the place of the signature, where there is one.
+fn fits_of_sig(scope: &Scope, callee: Callee, place: usize, ty: Ty) -> bool
+    ensures { IsTrue result ↔ FitsWordOf (measure scope.now) (seen_callee callee.entry) (pos place) ty }
+{
+    let args = callee.args.len();
+    if place < args {
+        fits_at(scope, callee.args, place, ty)
+    } else {
+        fits_at(scope, callee.results, place - args, ty)
+    }
+}
+
+/// Whether a value of the type fits the place, where there is one.
+fn fits_at(scope: &Scope, types: &[Ty], place: usize, ty: Ty) -> bool
+    ensures { IsTrue result ↔ FitsPlaceOf (measure scope.now) types.now (pos place) ty }
+{
+    match types.get(place) {
+        Some(other) => alike(*other, ty, scope.target),
         None => true,
     }
 }

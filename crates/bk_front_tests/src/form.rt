@@ -142,7 +142,7 @@ fn missing(rt: HostRuntime) -> Result<(), Fail> {
 }
 
 /// Counts of arguments.
-const ARITY: [(&str, &str, &str); 4] = [
+const ARITY: [(&str, &str, &str); 5] = [
     (
         "",
         "b1 Ret v5; v1 InitMem mem; v4 Const64 int [7]; v6 Add64 int v4; v5 MakeResult mem v1",
@@ -163,6 +163,7 @@ const ARITY: [(&str, &str, &str); 4] = [
         "b1 Ret v5; v1 InitMem mem; v2 Arg bool {a0}; v6 StaticLECall mem {s1} v2 v1; v5 MakeResult mem v1",
         "arity v6",
     ),
+    ("", "b1 Ret v1; v1 InitMem mem; b2 Exit v3; v3 Phi mem", "arity v3"),
 ];
 
 #[test]
@@ -477,5 +478,70 @@ const ORDER: [(&str, &str, &str); 7] = [
 #[test]
 fn order(rt: HostRuntime) -> Result<(), Fail> {
     all_say(&rt, rt.alloc(), &ORDER)?;
+    Ok(())
+}
+
+/// Words and registers of calls: a word counts places of the signature, and belongs to the next call.
+const WORDS: [(&str, &str, &str); 11] = [
+    (
+        "int",
+        "b1 Ret v9; v1 InitMem mem; v2 ARGWORD bool [0]; v3 ARGWORD ptr [1]; v4 OUTWORD mem [0] v2 v1; v5 OUTWORD mem [1] v3 v4; v6 CALL mem {s1} v5; v7 RESWORD int [2] v6; v9 RETWORD mem [2] v7 v6",
+        "ok",
+    ),
+    (
+        "",
+        "b1 Ret v7; v1 InitMem mem; v2 ARGWORD bool [0]; v3 ARGWORD ptr [1]; v4 OUTWORD mem [0] v2 v1; v5 Store mem {bool} v3 v2 v4; v6 OUTWORD mem [1] v3 v5; v7 CALL mem {s1} v6",
+        "ok",
+    ),
+    (
+        "",
+        "b1 Ret v4; v1 InitMem mem; v2 ARGWORD bool [0]; v4 OUTWORD mem [0] v2 v1",
+        "width v4",
+    ),
+    (
+        "",
+        "b1 Ret v6; v1 InitMem mem; v2 ARGWORD bool [0]; v4 OUTWORD mem [0] v2 v1; v5 CALL mem {s4294967295} v4; v6 CALL mem {s1} v5",
+        "width v4",
+    ),
+    (
+        "",
+        "b1 Plain -> b2; v1 InitMem mem; v2 ARGWORD bool [0]; v4 OUTWORD mem [0] v2 v1; b2 Ret v5 <- b1; v5 CALL mem {s1} v4",
+        "width v4",
+    ),
+    (
+        "int",
+        "b1 Ret v7; v1 InitMem mem; v2 ARGREG bool [0]; v3 ARGREG ptr [1]; v5 CALLREGS mem {s1} v2 v3 v1; v6 RESREG int [0] v5; v7 RETREGS mem v6 v5",
+        "ok",
+    ),
+    (
+        "",
+        "b1 Ret v7; v1 InitMem mem; v7 RETREGS mem v1",
+        "arity v7",
+    ),
+    (
+        "",
+        "b1 Ret v5; v1 InitMem mem; v2 ARGREG bool [0]; v5 CALLREGS mem {s1} v2 v1",
+        "arity v5",
+    ),
+    (
+        "",
+        "b1 Ret v5; v1 InitMem mem; v2 ARGREG bool [0]; v5 CALLREGS mem {s0} v2 v1",
+        "missing v5",
+    ),
+    (
+        "int",
+        "b1 Exit v6; v1 InitMem mem; v2 ARGREG bool [0]; v3 ARGREG ptr [1]; v5 StaticLECall list {s1} v2 v3 v1; v6 SelectN mem [1] v5; v7 RESREG int [0] v5",
+        "type v7",
+    ),
+    (
+        "int",
+        "b1 Exit v5; v1 InitMem mem; v2 ARGREG bool [0]; v3 ARGREG ptr [1]; v5 CALLREGS mem {s1} v2 v3 v1; v6 RESREG int [1] v5",
+        "width v6",
+    ),
+];
+
+#[test]
+fn words(rt: HostRuntime) -> Result<(), Fail> {
+    all_say(&rt, rt.alloc(), &WORDS)?;
     Ok(())
 }

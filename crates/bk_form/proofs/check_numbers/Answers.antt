@@ -1,4 +1,4 @@
-use Rattle.std.proofs.Common.{refl, arith}
+use Rattle.std.proofs.Common.{refl}
 use Rattle.bk_func.specs.declared.form.FormKind.TheVariants.{Missing, Arity}
 use Rattle.bk_func.specs.Form.{Keeps}
 use Rattle.bk_form.specs.Names.{measure}

@@ -1,4 +1,4 @@
-use Rattle.std.proofs.Common.{refl, arith}
+use Rattle.std.proofs.Common.{refl}
 use Rattle.bk_func.specs.declared.form.FormKind.TheVariants.{Ty, Width}
 use Rattle.bk_form.specs.Names.{measure}
 use Rattle.bk_form.proofs.Judging.{kept_here, kept_more, refused, on_result}

@@ -1,4 +1,4 @@
-use Rattle.std.proofs.Common.{◌≡◌, refl}
+use Rattle.std.proofs.Common.{refl}
 use Rattle.bk_func.specs.declared.form.FormKind.TheVariants.{Use}
 use Rattle.bk_form.specs.Names.{measure}
 use Rattle.bk_form.proofs.Judging.{kept_here, kept_more}

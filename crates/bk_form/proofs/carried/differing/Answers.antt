@@ -1,4 +1,4 @@
-use Rattle.std.proofs.Common.{◌≡◌, ◌∙◌, sym, ap, ℕ, get_or, None, arith}
+use Rattle.std.proofs.Common.{◌∙◌, sym, ap, arith}
 use Rattle.std.specs.List.{slice_get}
 use Rattle.bk_form.specs.Carried.{out_of}
 use Rattle.bk_form.proofs.Gathering.{differs_none, differs_past, differs_more, differs_all}

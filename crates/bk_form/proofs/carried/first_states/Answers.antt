@@ -1,5 +1,4 @@
-use Rattle.std.proofs.Common.{◌≡◌, ◌∙◌, sym, refl, ap, subst, ℕ, List, Option, Bool, None, get_or, length, replicate, arith}
-use Rattle.std.proofs.lemmas.Option.{none-some}
+use Rattle.std.proofs.Common.{◌≡◌, ◌∙◌, sym, ap, subst, ℕ, List, Option, None, get_or, length}
 use Rattle.std.proofs.lemmas.Result.{IfOk-weaker}
 use Rattle.bk_form.specs.Carried.{AreOpen, AreIncoming, AreDiffering, unmarked}
 use Rattle.bk_form.specs.Names.{measure}
@@ -7,7 +6,7 @@ use Rattle.bk_form.specs.Search.{IsClosed, PathFrom}
 use Rattle.bk_form.specs.Walks.{block_edges, IsRow}
 use Rattle.bk_form.proofs.Copied.{values_named}
 use Rattle.bk_form.proofs.FirstStates.{AreFlows, first_states_are}
-use Rattle.bk_form.proofs.Marking.{marked_or, none_closed, none_unmarked}
+use Rattle.bk_form.proofs.Marking.{none_closed, none_unmarked}
 use Rattle.bk_form.proofs.Used.{are_named}
 use Rattle.bk_form.proofs.carried.first_states.Goals as goal
 

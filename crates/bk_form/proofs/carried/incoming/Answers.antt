@@ -1,4 +1,4 @@
-use Rattle.std.proofs.Common.{◌≡◌, ◌∙◌, sym, ap, subst, ℕ, ◌+◌, ◌≤◌, length, get_or, arith}
+use Rattle.std.proofs.Common.{◌∙◌, sym, subst, ℕ, arith}
 use Rattle.bk_form.proofs.Sourcing.{Sourced, sourced_first, sourced_more, sourced_past, sourced_all}
 use Rattle.bk_form.proofs.StateNames.{nothing_is}
 use Rattle.bk_form.proofs.carried.incoming.Goals as goal

@@ -1,6 +1,4 @@
-use Rattle.std.proofs.Common.{◌≡◌, ◌∙◌, sym, ap, ℕ, [], List, cond, get_or, length, arith}
-use Rattle.std.specs.List.{slice_get}
-use Rattle.bk_form.specs.Carried.{is_open}
+use Rattle.std.proofs.Common.{◌∙◌, [], arith}
 use Rattle.bk_form.proofs.Carrying.{open_all}
 use Rattle.bk_form.proofs.Filling.{filled_none, filled_more}
 use Rattle.bk_form.proofs.carried.open_edges.Goals as goal

@@ -1,4 +1,4 @@
-use Rattle.std.proofs.Common.{◌≡◌, ◌∙◌, sym, ap, ℕ, get_or, None}
+use Rattle.std.proofs.Common.{◌≡◌, ◌∙◌, sym, ℕ, get_or, None}
 use Rattle.std.proofs.lemmas.Bool.{false≢true}
 use Rattle.bk_form.proofs.Gathering.{gathers_none, gathers_past, gathers_more, gathers_all}
 use Rattle.bk_form.proofs.carried.push_differing.Goals as goal

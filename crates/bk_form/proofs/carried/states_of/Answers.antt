@@ -1,4 +1,4 @@
-use Rattle.std.proofs.Common.{◌≡◌, ◌∙◌, sym, ap, ℕ, Option, None, get_or, length, arith}
+use Rattle.std.proofs.Common.{◌∙◌, ap, None, get_or, arith}
 use Rattle.bk_form.specs.Carried.{unmarked}
 use Rattle.bk_form.proofs.Carrying.{unmarked_all}
 use Rattle.bk_form.proofs.Filling.{filled_none, filled_more}

@@ -1,5 +1,4 @@
-use Rattle.std.proofs.Common.{◌≡◌, ◌∙◌, sym, ap, ◌↔◌, ℕ, Option, None, Some, arith}
-use Rattle.bk_form.specs.Chains.{IsBefore}
+use Rattle.std.proofs.Common.{None, arith}
 use Rattle.bk_form.proofs.Filling.{filled_none, filled_more}
 use Rattle.bk_form.proofs.Homes.{befores_all}
 use Rattle.bk_form.proofs.chains.befores.Goals as goal

@@ -1,10 +1,5 @@
-use Rattle.std.proofs.Common.{◌≡◌, ◌∙◌, sym, ap, subst, ℕ, ◌+◌, ◌<◌, List, length, Some, arith}
-use Rattle.std.specs.List.{slice_get}
-use Rattle.std.proofs.lemmas.Option.{slice_get_within, get_or_from_slice_get}
-use Rattle.bk_func.specs.Records.{BlockRecord}
-use Rattle.bk_form.specs.Chains.{IsChainOf}
+use Rattle.std.proofs.Common.{◌≡◌, ◌∙◌, ap, ◌<◌, length, arith}
 use Rattle.bk_form.specs.Names.{measure}
-use Rattle.bk_form.specs.declared.chains.Chain.{Chain}
 use Rattle.bk_form.specs.declared.chains.Chain.TheVariants.{Empty}
 use Rattle.bk_form.proofs.ChainNumbers.{ArePlaces, IsPlaceIn, chain_of, one_chain, members_are, members_close, members_within}
 use Rattle.bk_form.proofs.Copied.{values_named}

@@ -1,4 +1,4 @@
-use Rattle.std.proofs.Common.{◌≡◌, ◌∙◌, sym, ap, subst, ℕ, ◌+◌, ◌≤◌, length, get_or, replicate, Option, None, arith}
+use Rattle.std.proofs.Common.{◌≡◌, ◌∙◌, sym, ap, subst, ℕ, get_or, replicate, Option, None, arith}
 use Rattle.bk_form.proofs.Homes.{none_is, not_none}
 use Rattle.bk_form.proofs.Sowing.{Sown, sown_first, sown_more, sown_past, sown_all}
 use Rattle.bk_form.proofs.chains.firsts.Goals as goal

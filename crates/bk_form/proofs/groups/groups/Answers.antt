@@ -1,4 +1,4 @@
-use Rattle.std.proofs.Common.{◌≡◌, ◌∙◌, ap, ◌++◌, ◌∷◌, [], refl, get_or, None, arith}
+use Rattle.std.proofs.Common.{◌∙◌, ap, ◌++◌, ◌∷◌, [], refl, get_or, None, arith}
 use Rattle.bk_form.proofs.Grouping.{grouped_more, groups_are}
 use Rattle.bk_form.proofs.groups.groups.Goals as goal
 

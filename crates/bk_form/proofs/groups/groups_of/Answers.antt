@@ -1,4 +1,4 @@
-use Rattle.std.proofs.Common.{◌≡◌, subst, ℕ, List, Option}
+use Rattle.std.proofs.Common.{subst, ℕ, List, Option}
 use Rattle.std.proofs.lemmas.Result.{IfOk-weaker}
 use Rattle.bk_form.specs.Groups.{AreGroups}
 use Rattle.bk_form.specs.Names.{measure}

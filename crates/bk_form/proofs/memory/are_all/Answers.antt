@@ -1,4 +1,4 @@
-use Rattle.std.proofs.Common.{◌≡◌, ℕ, true, false}
+use Rattle.std.proofs.Common.{◌≡◌, ℕ}
 use Rattle.std.proofs.lemmas.List.Elements.{Contains-get_or}
 use Rattle.bk_form.proofs.Filling.{number_none, number_more, number_all}
 use Rattle.bk_form.proofs.Remembered.{yes, no}

@@ -1,7 +1,6 @@
-use Rattle.std.proofs.Common.{◌≡◌, ◌∙◌, ◌↔◌, sym, ap, subst, ℕ, ◌+◌, List, length, Option, None, Some, arith}
-use Rattle.bk_form.specs.Naming.{GivesState}
+use Rattle.std.proofs.Common.{◌≡◌, ◌∙◌, ap, length, None, arith}
 use Rattle.bk_form.specs.Names.{measure}
-use Rattle.bk_form.specs.Places.{NodeRecord, nodes_of}
+use Rattle.bk_form.specs.Places.{nodes_of}
 use Rattle.bk_form.proofs.Copied.{values_named}
 use Rattle.bk_form.proofs.Filling.{filled_none, filled_more}
 use Rattle.bk_form.proofs.Flowing.{item_at}

@@ -1,4 +1,4 @@
-use Rattle.std.proofs.Common.{◌≡◌, ◌∙◌, sym, ap, None, Option, ℕ}
+use Rattle.std.proofs.Common.{◌∙◌, sym, ap, None, Option, ℕ}
 use Rattle.std.specs.Option.{unwrap_or}
 use Rattle.std.proofs.lemmas.Option.{unwrap_or-slice_get}
 use Rattle.bk_form.specs.Names.{measure}

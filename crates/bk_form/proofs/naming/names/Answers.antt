@@ -1,6 +1,6 @@
-use Rattle.std.proofs.Common.{◌≡◌, ◌∙◌, sym, ap, subst, ℕ, ◌+◌, List, length, Option, None, arith}
+use Rattle.std.proofs.Common.{◌≡◌, ◌∙◌, sym, ap, subst, length, None, arith}
 use Rattle.std.proofs.lemmas.Option.{same_Some}
-use Rattle.bk_func.specs.Records.{ValueRecord, BlockRecord}
+use Rattle.bk_func.specs.Records.{ValueRecord}
 use Rattle.bk_func.specs.Form.Text.{HasValue}
 use Rattle.bk_form.specs.Naming.{NamesIf}
 use Rattle.bk_form.specs.Places.{NodeRecord, nodes_of}

@@ -1,4 +1,3 @@
-use Rattle.std.proofs.Common.{◌≡◌}
 use Rattle.bk_form.proofs.Adding.{before_none, before_more, before_all}
 use Rattle.bk_form.proofs.order.add_before.Goals as goal
 

@@ -1,4 +1,4 @@
-use Rattle.std.proofs.Common.{◌≡◌, ℕ, take}
+use Rattle.std.proofs.Common.{◌≡◌, take}
 use Rattle.std.specs.List.{Contains}
 use Rattle.bk_form.specs.Arranged.{Adds}
 use Rattle.bk_form.proofs.order.add_before.Given as goal

@@ -1,4 +1,4 @@
-use Rattle.std.proofs.Common.{◌≡◌, ◌<◌, subst, ℕ, List, arith}
+use Rattle.std.proofs.Common.{subst, ℕ, List, arith}
 use Rattle.std.specs.List.{Contains}
 use Rattle.bk_form.proofs.Adding.{group_all}
 use Rattle.bk_form.proofs.order.add_group.Goals as goal

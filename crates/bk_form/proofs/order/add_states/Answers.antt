@@ -1,4 +1,4 @@
-use Rattle.std.proofs.Common.{◌≡◌, ◌<◌, ℕ, get_or, arith}
+use Rattle.std.proofs.Common.{◌≡◌, ℕ, get_or, arith}
 use Rattle.std.specs.List.{Contains}
 use Rattle.bk_form.proofs.Adding.{each_none, each_more, each_all, adds_same}
 use Rattle.bk_form.proofs.order.add_states.Goals as goal

@@ -1,7 +1,5 @@
-use Rattle.std.proofs.Common.{◌≡◌, ◌∙◌, sym, ap, Some, None}
+use Rattle.std.proofs.Common.{◌∙◌, sym}
 use Rattle.std.proofs.lemmas.Bool.{false≢true}
-use Rattle.bk_form.specs.Names.{measure}
-use Rattle.bk_form.proofs.Copied.{values_named}
 use Rattle.bk_form.proofs.Placing.{no_place, placed, not_placed}
 use Rattle.bk_form.proofs.Sending.{nothing_there}
 use Rattle.bk_form.proofs.order.place_in.Goals as goal

@@ -1,4 +1,4 @@
-use Rattle.std.proofs.Common.{◌≡◌, ℕ, get_or}
+use Rattle.std.proofs.Common.{get_or}
 use Rattle.std.proofs.lemmas.List.Elements.{Contains-get_or}
 use Rattle.bk_form.proofs.Placing.{placed_none, placed_more, placed_all}
 use Rattle.bk_form.proofs.order.places_in.Goals as goal

@@ -1,4 +1,4 @@
-use Rattle.std.proofs.Common.{◌≡◌, ◌∙◌, sym, ap, subst, ℕ, Option, length, get_or, None, arith}
+use Rattle.std.proofs.Common.{◌∙◌, sym, ap, subst, ℕ, Option, length}
 use Rattle.bk_form.specs.Arranged.{IsEnd, end_of}
 use Rattle.bk_form.proofs.Adding.{load_first, load_next}
 use Rattle.bk_form.proofs.order.put_load.Goals as goal

@@ -1,4 +1,4 @@
-use Rattle.std.proofs.Common.{◌<◌, ℕ, arith}
+use Rattle.std.proofs.Common.{arith}
 use Rattle.bk_form.specs.Arranged.{IsLastBefore}
 use Rattle.bk_form.proofs.Adding.{each_none, each_more, each_all}
 use Rattle.bk_form.proofs.order.put_loads.Goals as goal

@@ -1,4 +1,4 @@
-use Rattle.std.proofs.Common.{◌≡◌, ◌∙◌, sym, ap, Bool}
+use Rattle.std.proofs.Common.{◌∙◌, sym, ap, Bool}
 use Rattle.std.proofs.lemmas.Result.{IfOk-weaker}
 use Rattle.bk_form.specs.Names.{measure}
 use Rattle.bk_form.proofs.Copied.{values_named}

@@ -1,4 +1,4 @@
-use Rattle.std.proofs.Common.{◌≡◌, ◌∙◌, sym, ap, subst, ℕ}
+use Rattle.std.proofs.Common.{subst, ℕ}
 use Rattle.bk_form.proofs.Rounding.{Begun, begun_first, begun_more, begun_all}
 use Rattle.bk_form.proofs.rounds.leads_back.Goals as goal
 

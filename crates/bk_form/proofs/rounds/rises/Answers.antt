@@ -1,4 +1,4 @@
-use Rattle.std.proofs.Common.{◌≡◌, ◌≤◌, length, arith}
+use Rattle.std.proofs.Common.{◌≤◌, length, arith}
 use Rattle.bk_form.proofs.Rounding.{rises_more, rises_all}
 use Rattle.bk_form.proofs.rounds.rises.Goals as goal
 

@@ -1,4 +1,4 @@
-use Rattle.std.proofs.Common.{◌≡◌, ◌∙◌, ap}
+use Rattle.std.proofs.Common.{◌∙◌, ap}
 use Rattle.bk_func.specs.Records.{BlockRecord, ValueRecord}
 use Rattle.bk_func.specs.Form.Before.{Precedes}
 use Rattle.bk_form.proofs.Finding.{holds_more, value_found, no_value}

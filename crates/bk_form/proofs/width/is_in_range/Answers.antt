@@ -1,10 +1,10 @@
-use Rattle.std.proofs.Common.{rules, ℤ, Bool, ◌≡◌, ◌∙◌, ◌↔◌, sym, ap, subst, refl, true}
+use Rattle.std.proofs.Common.{rules, ℤ, Bool, ◌≡◌, ◌∙◌, ◌↔◌, sym, ap, subst, true}
 use Rattle.std.specs.Bool.{IsTrue}
 use Rattle.bk_ops.specs.Table.{is_width}
 use Rattle.bk_func.specs.Records.{ValueRecord, SigRecord}
-use Rattle.bk_func.specs.Form.Parts.{IsSigned, IsBetween, IsArgumentWord, IsResultWord}
+use Rattle.bk_func.specs.Form.Parts.{IsSigned, IsBetween, IsArgumentWord, IsResultWord, IsInRegister}
 use Rattle.bk_form.specs.Names.{measure, seen_callee}
-use Rattle.bk_form.proofs.Families.{const_range, truth_range, trap_range, result_range, argument_word_range, return_word_range, result_word_range, argument_range, no_range}
+use Rattle.bk_form.proofs.Families.{const_range, truth_range, trap_range, result_range, argument_word_range, return_word_range, result_word_range, argument_range, argument_register_range, result_register_range, other_number}
 use Rattle.bk_form.specs.declared.sent.Question.TheVariants.{Counted}
 use Rattle.bk_form.proofs.Ops.{const_width}
 use Rattle.bk_form.proofs.Sending.{answer_of}
@@ -84,6 +84,26 @@ returns-in-ResWord c =
     let v = c.args.value.now in
     through c.is_word_of_result.ensures (result_word_range s f v v.op.family (sym (ap (λ v. v.op.family) c.value.view_is) ∙ c.in-ResWord.is))
 
+pub is_register_of_result-requires-clause-named : goal.is_register_of_result-requires-clause-named
+is_register_of_result-requires-clause-named c = let (b, has) = c.requires.there in c.requires.named.args b c.args.value.now has
+
+pub returns-in-ArgReg : goal.returns-in-ArgReg
+returns-in-ArgReg c =
+    let s = measure c.args.scope.now in
+    let f = c.args.scope.now.func.now in
+    let v = c.args.value.now in
+    through (subst (λ (g : SigRecord). IsTrue c.is_in_register.result ↔ IsInRegister s g.args v.int) c.own-in-ArgReg.ensures
+    (subst (λ (w : ValueRecord). IsTrue c.is_in_register.result ↔ IsInRegister s (seen_callee c.own-in-ArgReg.result).args w.int) c.value.view_is
+    (passed (λ (z : ℤ). IsTrue c.is_in_register.result ↔ IsInRegister s (seen_callee c.own-in-ArgReg.result).args z) c.value.inside.int (search rules) c.is_in_register.ensures)))
+    (argument_register_range s f v v.op.family (sym (ap (λ v. v.op.family) c.value.view_is) ∙ c.in-ArgReg.is))
+
+pub returns-in-ResReg : goal.returns-in-ResReg
+returns-in-ResReg c =
+    let s = measure c.args.scope.now in
+    let f = c.args.scope.now.func.now in
+    let v = c.args.value.now in
+    through c.is_register_of_result.ensures (result_register_range s f v v.op.family (sym (ap (λ v. v.op.family) c.value.view_is) ∙ c.in-ResReg.is))
+
 pub returns-in-OutWord : goal.returns-in-OutWord
 returns-in-OutWord c =
     let s = measure c.args.scope.now in
@@ -100,8 +120,9 @@ returns-in_default c =
     let f = c.args.scope.now.func.now in
     let v = c.args.value.now in
     let d = c.in_default in
-    let family = ap (λ v. v.op.family) c.value.view_is in (
-      (λ t. no_range s f v v.op.family (λ e. d.not-Const (family ∙ e)) (λ e. d.not-ConstBool (family ∙ e)) (λ e. d.not-Trap (family ∙ e)) (λ e. d.not-SelectN (family ∙ e))
-          (λ e. d.not-ArgWord (family ∙ e)) (λ e. d.not-RetWord (family ∙ e)) (λ e. d.not-ResWord (family ∙ e)) (λ e. d.not-OutWord (family ∙ e))),
-      (λ h. refl),
-    )
+    let family = ap (λ v. v.op.family) c.value.view_is in
+    through (subst (λ (w : ValueRecord). IsTrue c.is_signed-in_default.result ↔ IsSigned 64 w.int) c.value.view_is
+    (passed (λ (z : ℤ). IsTrue c.is_signed-in_default.result ↔ IsSigned 64 z) c.value.inside.int (search rules) c.is_signed-in_default.ensures))
+    (other_number s f v v.op.family (λ e. d.not-Const (family ∙ e)) (λ e. d.not-ConstBool (family ∙ e)) (λ e. d.not-Trap (family ∙ e)) (λ e. d.not-SelectN (family ∙ e))
+    (λ e. d.not-ArgWord (family ∙ e)) (λ e. d.not-RetWord (family ∙ e)) (λ e. d.not-ResWord (family ∙ e)) (λ e. d.not-OutWord (family ∙ e))
+    (λ e. d.not-ArgReg (family ∙ e)) (λ e. d.not-ResReg (family ∙ e)))

@@ -1,5 +1,4 @@
-use Rattle.std.proofs.Common.{◌≡◌, ◌∙◌, sym, ap, get_or, None, Some}
-use Rattle.std.specs.List.{slice_get}
+use Rattle.std.proofs.Common.{◌∙◌, sym, ap, get_or, None}
 use Rattle.std.proofs.lemmas.Bool.{false≢true}
 use Rattle.bk_form.proofs.Chained.{broken_label, broken_from, broken_line, broken_last, linked}
 use Rattle.bk_form.proofs.Lists.{lent}

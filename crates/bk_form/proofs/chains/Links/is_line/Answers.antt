@@ -1,4 +1,4 @@
-use Rattle.std.proofs.Common.{rules, ◌≡◌, ◌∙◌, sym, refl, ap, ℕ, get_or, None, Some, []}
+use Rattle.std.proofs.Common.{rules, ◌≡◌, ◌∙◌, sym, ℕ, get_or, None, Some, []}
 use Rattle.std.specs.List.{slice_get}
 use Rattle.std.proofs.lemmas.Bool.{false≢true}
 use Rattle.std.proofs.lemmas.List.Elements.{Contains-get_or}

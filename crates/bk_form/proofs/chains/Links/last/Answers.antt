@@ -1,4 +1,4 @@
-use Rattle.std.proofs.Common.{◌≡◌, ◌∙◌, sym, refl, ap, ℕ, get_or, []}
+use Rattle.std.proofs.Common.{◌≡◌, ◌∙◌, sym, ℕ, get_or, []}
 use Rattle.std.proofs.lemmas.Bool.{false≢true}
 use Rattle.std.proofs.lemmas.List.Elements.{Contains-get_or}
 use Rattle.bk_form.proofs.Filling.{number_none, number_more, number_all}

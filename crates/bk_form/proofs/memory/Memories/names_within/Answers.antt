@@ -1,4 +1,4 @@
-use Rattle.std.proofs.Common.{◌∙◌, sym, ap, subst, ℕ, true, false, get_or, Option, None}
+use Rattle.std.proofs.Common.{◌∙◌, sym, ap, subst, ℕ, get_or, Option, None}
 use Rattle.std.proofs.lemmas.Bool.{false≢true}
 use Rattle.bk_func.specs.Form.States.{IsFirstState}
 use Rattle.bk_form.specs.Carried.{IsPlaceOf}

@@ -1,4 +1,4 @@
-use Rattle.std.proofs.Common.{◌∙◌, sym, true, false}
+use Rattle.std.proofs.Common.{◌∙◌, sym, true}
 use Rattle.std.proofs.lemmas.Bool.{false≢true}
 use Rattle.bk_func.specs.Form.States.{IsLastState, StandsFor}
 use Rattle.bk_form.specs.Memories.{TakesLast, func_of}
