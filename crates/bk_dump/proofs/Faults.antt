@@ -1,5 +1,5 @@
 -- What a line without fault declares is not declared before it.
-use Rattle.std.proofs.Common.{◌≡◌, ℕ, ◌≤◌, arith, List, length, ap, ◌∙◌, refl, Bool, true, false, cond, Option, Some, None}
+use Rattle.std.proofs.Common.{◌≡◌, ℕ, ◌≤◌, arith, List, length, ap, ◌∙◌, refl, Bool, true, false, cond, Some, None}
 use Rattle.std.specs.Prelude.{not, nat_lt, nat_le, ◌+◌, ◌&&◌, ◌||◌}
 use Rattle.std.proofs.lemmas.Bool.Decides.{nat_tests}
 use Rattle.bk_dump.specs.declared.read.errors.Fault.{Fault}

@@ -1,5 +1,5 @@
 -- Ops by their names.
-use Rattle.std.proofs.Common.{◌≡◌, ℕ, List, sym, ◌∙◌, refl, Option, Some, None}
+use Rattle.std.proofs.Common.{◌≡◌, ℕ, List, sym, refl, Option, Some, None}
 use Rattle.std.specs.Prelude.{◌↔◌}
 use Rattle.bk_ops.specs.declared.table.Op.{Op}
 use Rattle.bk_ops.specs.Names.{HasName}

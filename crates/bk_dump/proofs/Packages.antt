@@ -1,6 +1,6 @@
 -- The package of whole functions whose references are looked up.
 use Rattle.std.proofs.Common.{◌≡◌, ℕ, List, ap}
-use Rattle.std.specs.Prelude.{Result, Ok, Err}
+use Rattle.std.specs.Prelude.{Ok, Err}
 use Rattle.bk_func.specs.Records.{FuncRecord, VarRecord, PackageRecord}
 use Rattle.bk_dump.specs.Trees.{FuncTree}
 use Rattle.bk_dump.specs.Resolved.{◌>>=◌, each, func_of, package_of}

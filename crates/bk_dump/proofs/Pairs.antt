@@ -1,5 +1,5 @@
 -- Pairs of hexadecimal digits, one pair further at a time.
-use Rattle.std.proofs.Common.{◌≡◌, ℕ, suc, ◌+◌, ◌*◌, ◌/◌, ◌<◌, ◌≤◌, List, [], ◌∷◌, ◌++◌, length, drop, ap, ◌∙◌, sym, refl, arith, get_or, append_assoc, append-nil}
+use Rattle.std.proofs.Common.{◌≡◌, ℕ, ◌+◌, ◌*◌, ◌/◌, ◌<◌, ◌≤◌, List, [], ◌∷◌, ◌++◌, length, drop, ap, ◌∙◌, sym, refl, arith, get_or, append_assoc, append-nil}
 use Rattle.std.proofs.lemmas.List.{drop_more, length-drop}
 use Rattle.bk_dump.specs.Drafts.{hex_value, pairs}
 

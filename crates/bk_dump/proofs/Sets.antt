@@ -1,5 +1,5 @@
 -- What a set of names says, over the names that its references point to.
-use Rattle.std.proofs.Common.{◌≡◌, ℕ, suc, ◌+◌, List, [], ◌∷◌, map, length, ap, ◌∙◌, refl, Bool, false, cond, Option, Some, None, ◌++◌}
+use Rattle.std.proofs.Common.{◌≡◌, ℕ, suc, ◌+◌, List, [], ◌∷◌, map, length, ap, ◌∙◌, refl, Bool, false, cond, Some, None, ◌++◌}
 use Rattle.std.specs.Prelude.{◌||◌, nat_lt, not}
 use Rattle.std.specs.List.{list_any, position, position_or_len}
 use Rattle.std.proofs.lemmas.List.{map-append}

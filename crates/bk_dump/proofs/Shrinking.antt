@@ -1,8 +1,8 @@
 -- What readers leave is shorter than what they were given.
-use Rattle.std.proofs.Common.{◌≡◌, ℕ, zero, suc, ◌+◌, ◌-◌, ◌<◌, ◌≤◌, min, List, [], ◌∷◌, ◌++◌, length, take, drop, ap, ◌∙◌, sym, refl, arith, Bool, true, false, cond, Option, Some, None}
+use Rattle.std.proofs.Common.{◌≡◌, ℕ, suc, ◌+◌, ◌<◌, ◌≤◌, min, List, [], ◌∷◌, length, take, drop, ap, refl, arith, Bool, true, false, cond, Option, Some, None}
 use Rattle.std.specs.Prelude.{◌==◌, ◌||◌, codes, position}
 use Rattle.std.specs.List.{prefix_len}
-use Rattle.std.specs.Option.{option_map, option_map_or}
+use Rattle.std.specs.Option.{option_map}
 use Rattle.std.specs.Char.{is_ascii_digit}
 use Rattle.std.proofs.lemmas.Bool.Decides.{nat_tests}
 use Rattle.std.proofs.lemmas.List.{length-drop}
@@ -11,7 +11,7 @@ use Rattle.bk_text.specs.Tokens.{is_blank}
 use Rattle.bk_ops.specs.declared.types.Ty.{Ty}
 use Rattle.bk_dump.specs.Front.{◌>>=◌, unblanked, gap_at, after, mark_at, run_at, front_at, cut_at, up_to}
 use Rattle.bk_dump.specs.Words.{as_utf8, utf8_at, is_plain_byte, plain_at, group_at, digits_len, digits_at, decimal_at, number_at, next_number_at}
-use Rattle.bk_dump.specs.Types.{word_type, with_type, place_type_at, next_type_at}
+use Rattle.bk_dump.specs.Types.{word_type, place_type_at, next_type_at}
 use Rattle.bk_dump.specs.Trees.{ParameterTree}
 use Rattle.bk_dump.specs.Headers.{parameter_at, next_parameter_at}
 use Rattle.bk_dump.proofs.Every.{Shrinks}

@@ -1,12 +1,12 @@
 -- What a line without fault leaves.
-use Rattle.std.proofs.Common.{◌≡◌, ℕ, ◌+◌, List, [], ◌∷◌, ◌++◌, length, map, ap, ◌∙◌, sym, refl, Bool, true, false, cond, Option, Some, None}
+use Rattle.std.proofs.Common.{◌≡◌, ℕ, List, [], ◌∷◌, ◌++◌, length, map, ap, ◌∙◌, sym, refl, true, false, cond, Some, None}
 use Rattle.bk_dump.specs.declared.read.errors.Fault.TheVariants.{Syntax, Duplicate}
-use Rattle.std.specs.Prelude.{Result, Ok, Err}
+use Rattle.std.specs.Prelude.{Ok, Err}
 use Rattle.bk_ops.specs.declared.types.Ty.{Ty}
 use Rattle.bk_func.specs.Records.{SigRecord, VarRecord}
 use Rattle.bk_dump.specs.declared.read.draft.Stage.{Stage}
-use Rattle.bk_dump.specs.declared.read.draft.Stage.TheVariants.{Between, Function, Block}
-use Rattle.bk_dump.specs.Trees.{ValueTree, LabelTree, EndTree, VarTree, HeaderTree, OpenTree, BlockTree, FuncTree}
+use Rattle.bk_dump.specs.declared.read.draft.Stage.TheVariants.{Function, Block}
+use Rattle.bk_dump.specs.Trees.{ValueTree, LabelTree, VarTree, HeaderTree, OpenTree, BlockTree, FuncTree}
 use Rattle.bk_dump.specs.Drafts.{State, entered, unless, value_fault, with_value, with_next, add_value, block_fault, with_block, open_block, var_fault, with_var, declare_var, padded, pairs, next_window, unless_then, are_fresh, parameter_names, header_fault, opened, with_func, declare_func, has_control, at_stage, read_line, read_behind, read_inside}
 
 pub value_added : (s : State) (f : FuncTree) (b : OpenTree) (v : ValueTree) (g : FuncTree) (c : OpenTree) → value_fault f v ≡ None → g ≡ with_value f v → c ≡ with_next b v → add_value s f b v ≡ Ok (entered s (Block g c))

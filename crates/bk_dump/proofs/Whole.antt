@@ -1,5 +1,5 @@
 -- What a text reads as, from what its lines declare and what its references name.
-use Rattle.std.proofs.Common.{◌≡◌, ℕ, ◌+◌, List, ◌∷◌, length, ap, ◌∙◌, sym, refl, subst, ◌⊎◌, inl, inr, ⊎_elim}
+use Rattle.std.proofs.Common.{◌≡◌, ℕ, List, ◌∷◌, length, ap, ◌∙◌, sym, refl, subst, ◌⊎◌, inl, inr, ⊎_elim}
 use Rattle.std.specs.Prelude.{Result, Ok, Err, string_bytes}
 use Rattle.std.specs.Result.{IsErrAnd}
 use Rattle.bk_func.specs.Records.{FuncRecord, VarRecord, PackageRecord}

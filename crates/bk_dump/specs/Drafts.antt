@@ -4,16 +4,14 @@ use Rattle.std.specs.Char.{digit_value}
 use Rattle.std.specs.List.{list_any, list_all}
 use Rattle.std.specs.Option.{option_map_or}
 use Rattle.std.specs.Str.{bytes_eq}
-use Rattle.bk_ops.specs.declared.types.Ty.{Ty}
-use Rattle.bk_func.specs.Records.{SigRecord, VarRecord}
+use Rattle.bk_func.specs.Records.{VarRecord}
 use Rattle.bk_func.specs.Limits.{most_functions, most_variables, most_values, most_blocks, most_in_signature, most_window}
-use Rattle.bk_dump.specs.declared.read.errors.Which.{Which}
 use Rattle.bk_dump.specs.declared.read.errors.Which.TheVariants as which
 use Rattle.bk_dump.specs.declared.read.errors.Fault.{Fault}
 use Rattle.bk_dump.specs.declared.read.errors.Fault.TheVariants.{Syntax, Limit, Duplicate}
 use Rattle.bk_dump.specs.declared.read.draft.Stage.{Stage}
 use Rattle.bk_dump.specs.declared.read.draft.Stage.TheVariants.{Between, Function, Block}
-use Rattle.bk_dump.specs.Trees.{ValueTree, LabelTree, EndTree, VarTree, ParameterTree, HeaderTree, OpenTree, BlockTree, FuncTree}
+use Rattle.bk_dump.specs.Trees.{ValueTree, LabelTree, EndTree, VarTree, HeaderTree, OpenTree, FuncTree}
 use Rattle.bk_dump.specs.Values.{value_at}
 use Rattle.bk_dump.specs.Blocks.{block_at, end_at}
 use Rattle.bk_dump.specs.Headers.{var_at, header_at}

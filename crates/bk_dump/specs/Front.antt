@@ -1,7 +1,7 @@
 -- Reading at the front of a text: a reader gives what it reads there and the text behind it, or nothing.
 use Rattle.std.specs.Prelude.{ℕ, zero, suc, Bool, ◌==◌, cond, if◌then◌else◌, List, [], ◌∷◌, length, take, drop, Option, Some, None, position}
 use Rattle.std.specs.List.{prefix_len}
-use Rattle.std.specs.Option.{option_map, option_map_or}
+use Rattle.std.specs.Option.{option_map_or}
 use Rattle.bk_text.specs.Tokens.{is_blank}
 
 infixl 10 ◌>>=◌

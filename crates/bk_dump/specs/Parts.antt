@@ -1,5 +1,5 @@
 -- The parts of a line, and how a line lays them out.
-use Rattle.std.specs.Prelude.{◌≡◌, ◌≢◌, ◌<◌, ◌==◌, ℕ, Bool, true, min, List, [], ◌∷◌, ◌++◌, ◌⊎◌, length, slice_index, codes}
+use Rattle.std.specs.Prelude.{◌≡◌, ◌≢◌, ◌<◌, ℕ, Bool, true, min, List, [], ◌∷◌, ◌++◌, ◌⊎◌, length, slice_index, codes}
 use Rattle.std.specs.List.{AllByRecursion}
 use Rattle.std.specs.Str.{is_utf8}
 use Rattle.std.specs.Str.Parse.{AllDigits, digits_value}

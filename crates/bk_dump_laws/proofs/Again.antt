@@ -1,19 +1,18 @@
 -- What is spelled at the front of a text is read there.
-use Rattle.std.proofs.Common.{◌≡◌, ℕ, zero, suc, ◌+◌, ◌-◌, ◌^◌, ◌<◌, ◌≤◌, min, List, [], ◌∷◌, ◌++◌, length, take, drop, ap, ◌∙◌, sym, refl, arith, get_or, Bool, true, false, cond, Option, Some, None, ◌⊎◌, inl, inr, ⊎_elim}
-use Rattle.std.specs.Prelude.{◌==◌, ◌&&◌, ◌||◌, nat_lt, slice_index, codes}
+use Rattle.std.proofs.Common.{◌≡◌, ℕ, suc, ◌+◌, ◌^◌, ◌<◌, ◌≤◌, min, List, [], ◌∷◌, ◌++◌, length, take, drop, ap, ◌∙◌, refl, arith, get_or, Bool, true, false, cond, Option, Some, None, ◌⊎◌, inl, inr, ⊎_elim}
+use Rattle.std.specs.Prelude.{◌==◌, ◌&&◌, ◌||◌, nat_lt, slice_index}
 use Rattle.std.specs.Char.{digit_value, is_ascii_digit}
 use Rattle.std.specs.Fmt.{decimal}
 use Rattle.std.specs.List.{prefix_len, AllByRecursion}
 use Rattle.std.specs.Option.{option_map}
-use Rattle.std.specs.Str.{is_utf8}
 use Rattle.std.specs.Str.Parse.{AllDigits, digits_value}
 use Rattle.std.proofs.lemmas.Bool.Decides.{nat_tests}
 use Rattle.std.proofs.lemmas.Bool.{cases_lt}
 use Rattle.std.proofs.lemmas.List.{drop_at, take_at, get_or_append_left}
 use Rattle.std.proofs.lemmas.Fmt.{decimal_is_IsNumeral, first_decimal, decimal_digit}
 use Rattle.bk_text.specs.Tokens.{is_blank}
-use Rattle.bk_dump.specs.Front.{◌>>=◌, unblanked, gap_at, after, mark_at, run_at, front_at}
-use Rattle.bk_dump.specs.Words.{is_name_byte, is_plain_byte, as_utf8, utf8_at, name_at, plain_at, digits_len, digits_at, decimal_at, number_at, next_number_at}
+use Rattle.bk_dump.specs.Front.{◌>>=◌, unblanked, after, front_at}
+use Rattle.bk_dump.specs.Words.{is_name_byte, is_plain_byte, as_utf8, utf8_at, name_at, plain_at, digits_len, digits_at, decimal_at, number_at}
 use Rattle.bk_dump.specs.Parts.{IsNameOf}
 use Rattle.bk_dump.proofs.Runs.{front_append}
 

@@ -1,24 +1,24 @@
 -- What the lines of a text declare is what the declarations that they spell declare.
-use Rattle.std.proofs.Common.{◌≡◌, ℕ, zero, suc, ◌+◌, ◌<◌, ◌≤◌, List, [], ◌∷◌, ◌++◌, length, map, ap, ◌∙◌, sym, refl, subst, arith, append_assoc, append-nil, Bool, true, false, cond, Option, Some, None}
+use Rattle.std.proofs.Common.{◌≡◌, ℕ, suc, ◌+◌, ◌<◌, List, [], ◌∷◌, ◌++◌, length, map, ap, ◌∙◌, sym, refl, subst, arith, append_assoc, append-nil, Bool, true, false, cond, Option, Some, None}
 use Rattle.std.specs.Prelude.{Result, Ok, Err, not, nat_lt, filter, All}
-use Rattle.std.specs.List.{AllZip, AllByRecursion}
+use Rattle.std.specs.List.{AllZip}
 use Rattle.std.specs.Option.{option_map_or}
 use Rattle.std.proofs.lemmas.Bool.Decides.{nat_tests}
-use Rattle.std.proofs.lemmas.List.{length-append, map-append}
+use Rattle.std.proofs.lemmas.List.{map-append}
 use Rattle.std.proofs.lemmas.List.Elements.{All-push, All-nil}
 use Rattle.bk_func.specs.Records.{VarRecord, PackageRecord}
 use Rattle.bk_dump.specs.Resolved.{package_of}
 use Rattle.bk_dump.specs.declared.read.errors.Fault.{Fault}
-use Rattle.bk_dump.specs.declared.read.errors.Fault.TheVariants.{Syntax, Duplicate}
+use Rattle.bk_dump.specs.declared.read.errors.Fault.TheVariants.{Syntax}
 use Rattle.bk_dump.specs.declared.read.draft.Stage.{Stage}
 use Rattle.bk_dump.specs.declared.read.draft.Stage.TheVariants.{Between, Function, Block}
 use Rattle.bk_dump.specs.Trees.{ValueTree, LabelTree, EndTree, VarTree, HeaderTree, OpenTree, BlockTree, FuncTree}
 use Rattle.bk_dump.specs.Values.{value_at}
 use Rattle.bk_dump.specs.Blocks.{block_at, end_at}
 use Rattle.bk_dump.specs.Headers.{var_at, header_at}
-use Rattle.bk_dump.specs.Drafts.{State, entered, unless, unless_then, value_fault, with_value, with_next, add_value, with_end, end_fault, end_block, read_inside, with_var, var_fault, declare_var, are_fresh, parameter_names, opened, header_fault, with_func, declare_func, declare, closed, has_block, block_fault, with_block, open_block, read_behind, at_stage, has_control, read_line, finished_function, finished_at, finished, at_start}
+use Rattle.bk_dump.specs.Drafts.{State, entered, unless, unless_then, value_fault, with_value, with_next, add_value, with_end, end_fault, end_block, read_inside, with_var, var_fault, declare_var, are_fresh, parameter_names, opened, header_fault, with_func, declare_func, declare, closed, has_block, block_fault, with_block, open_block, read_behind, at_stage, has_control, read_line, finished_at, finished, at_start}
 use Rattle.bk_dump.specs.Texts.{Refusal, at, ◌>>=◌, is_skipped, lines, read_next, read_lines, references, reading}
-use Rattle.bk_dump_laws.specs.Declarations.{Line, var_line, func_line, block_line, value_line, end_line, SpellsLine, Declaration, variable, function, lines_of_block, lines_of_blocks, lines_of_all, IsWhole, names_of_all, value_ids, block_ids, declared_func, declared_var, funcs_from, vars_from, SpellsAll}
+use Rattle.bk_dump_laws.specs.Declarations.{Line, var_line, func_line, block_line, value_line, end_line, SpellsLine, Declaration, variable, function, lines_of_block, lines_of_blocks, lines_of_all, IsWhole, names_of_all, value_ids, block_ids, declared_func, declared_var, funcs_from, vars_from}
 use Rattle.bk_dump_laws.proofs.LaidVars.{var_lays}
 use Rattle.bk_dump_laws.proofs.LaidHeaders.{func_lays}
 use Rattle.bk_dump_laws.proofs.LaidBlocks.{block_lays}

@@ -1,6 +1,6 @@
 -- A text that spells declarations is not refused for its syntax.
-use Rattle.std.proofs.Common.{◌≡◌, ◌≢◌, ℕ, zero, suc, ◌+◌, ◌<◌, ◌≤◌, List, [], ◌∷◌, ◌++◌, length, map, ap, ◌∙◌, sym, refl, subst, arith, append_assoc, append-nil, Bool, true, false, cond, Option, Some, None}
-use Rattle.std.specs.Prelude.{Result, Ok, Err, not, nat_lt, nat_le, filter, All, ◌&&◌, ◌||◌}
+use Rattle.std.proofs.Common.{◌≡◌, ℕ, suc, ◌+◌, ◌<◌, List, [], ◌∷◌, ◌++◌, length, map, ap, ◌∙◌, sym, refl, subst, arith, append_assoc, Bool, true, false, cond, Option, Some, None}
+use Rattle.std.specs.Prelude.{Result, Ok, Err, not, nat_lt, nat_le, filter, All, ◌&&◌}
 use Rattle.std.specs.List.{AllZip}
 use Rattle.std.specs.Option.{option_map_or}
 use Rattle.std.proofs.lemmas.Bool.Decides.{nat_tests}
@@ -16,15 +16,14 @@ use Rattle.bk_dump.specs.Values.{value_at}
 use Rattle.bk_dump.specs.Blocks.{block_at, end_at}
 use Rattle.bk_dump.specs.Headers.{var_at, header_at}
 use Rattle.bk_dump.specs.Parts.{Spells}
-use Rattle.bk_dump_laws.specs.Lines.{IsVarLine, IsFuncLine, IsBlockLine, IsValueLine, IsEndLine}
-use Rattle.bk_dump.specs.Drafts.{State, is_number, are_numbers, declares, control_is_number, is_taken, entered, unless, unless_then, value_fault, with_value, with_next, add_value, with_end, end_fault, end_block, read_inside, with_var, var_fault, declare_var, opened, header_fault, with_func, declare_func, declare, closed, has_block, block_fault, with_block, open_block, read_behind, at_stage, has_control, read_line, finished_at, finished, at_start}
+use Rattle.bk_dump.specs.Drafts.{State, is_number, are_numbers, declares, control_is_number, is_taken, entered, unless, unless_then, value_fault, with_value, with_next, add_value, with_end, end_fault, end_block, read_inside, with_var, var_fault, declare_var, opened, header_fault, with_func, declare_func, declare, closed, has_block, block_fault, with_block, open_block, read_behind, at_stage, read_line, finished_at, finished, at_start}
 use Rattle.bk_dump.specs.Resolved.{package_of}
-use Rattle.bk_dump.specs.Texts.{Refusal, at_line, undefined, at, ◌>>=◌, is_skipped, lines, read_next, read_lines, references, reading}
-use Rattle.bk_dump_laws.specs.Declarations.{Line, IsLine, var_line, func_line, block_line, value_line, end_line, SpellsLine, Declaration, variable, function, lines_of_block, lines_of_blocks, lines_of_all, IsWhole, SpellsAll}
+use Rattle.bk_dump.specs.Texts.{Refusal, at_line, at, ◌>>=◌, is_skipped, lines, read_next, read_lines, references, reading}
+use Rattle.bk_dump_laws.specs.Declarations.{Line, IsLine, var_line, func_line, block_line, value_line, end_line, SpellsLine, Declaration, variable, function, lines_of_blocks, lines_of_all, IsWhole, SpellsAll}
 use Rattle.bk_dump_laws.proofs.LaidVars.{var_lays, var_reads}
-use Rattle.bk_dump_laws.proofs.LaidHeaders.{func_lays, func_reads}
+use Rattle.bk_dump_laws.proofs.LaidHeaders.{func_reads}
 use Rattle.bk_dump_laws.proofs.LaidBlocks.{block_lays, block_reads}
-use Rattle.bk_dump_laws.proofs.LaidEnds.{end_lays, end_reads}
+use Rattle.bk_dump_laws.proofs.LaidEnds.{end_reads}
 use Rattle.bk_dump_laws.proofs.LaidValues.{value_lays, value_reads}
 use Rattle.bk_dump.proofs.Stages.{read_at}
 use Rattle.bk_dump_laws.proofs.Forms.{var_no_func, block_no_var, block_no_func, value_no_end}

@@ -1,13 +1,12 @@
 -- A package that a text reads as, its functions in form, is one whose own text spells what it declares.
-use Rattle.std.proofs.Common.{◌≡◌, ◌≢◌, ℕ, zero, suc, ◌+◌, ◌-◌, ◌*◌, ◌^◌, ◌<◌, ◌≤◌, List, [], ◌∷◌, ◌++◌, length, map, take, replicate, ap, ◌∙◌, sym, refl, subst, arith, get_or, append_assoc, Bool, true, false, cond, Option, Some, None, ◌⊎◌, inl, inr}
-use Rattle.std.specs.Prelude.{Result, Ok, Err, codes, ◌==◌, All, Contains, position, slice_index_or}
-use Rattle.std.specs.Char.{digit_value}
+use Rattle.std.proofs.Common.{◌≡◌, ℕ, zero, suc, ◌+◌, ◌-◌, ◌^◌, ◌<◌, ◌≤◌, List, [], ◌∷◌, ◌++◌, length, map, take, replicate, ap, ◌∙◌, sym, refl, subst, arith, append_assoc, Bool, true, false, cond, Option, Some, None, inl, inr}
+use Rattle.std.specs.Prelude.{Ok, codes, ◌==◌, All, Contains, slice_index_or}
 use Rattle.std.specs.List.{AllByRecursion, AllZip}
 use Rattle.std.specs.Option.{option_map}
 use Rattle.std.specs.Str.{bytes_eq}
 use Rattle.std.proofs.lemmas.Bool.Decides.{nat_tests}
 use Rattle.std.proofs.lemmas.List.{length-append, length-map}
-use Rattle.std.proofs.lemmas.List.Elements.{All-contains, recursion_from_All}
+use Rattle.std.proofs.lemmas.List.Elements.{recursion_from_All}
 use Rattle.std.proofs.lemmas.List.Quantifiers.{position-Some}
 use Rattle.bk_ops.specs.declared.family.Family.{Family}
 use Rattle.bk_ops.specs.declared.family.Family.TheVariants as family
@@ -15,27 +14,24 @@ use Rattle.bk_ops.specs.declared.types.Target.{Target}
 use Rattle.bk_ops.specs.declared.types.Ty.{Ty}
 use Rattle.bk_func.specs.declared.parts.Aux.{Aux}
 use Rattle.bk_func.specs.declared.parts.Aux.TheVariants as aux
-use Rattle.bk_func.specs.Records.{ValueRecord, BlockRecord, SigRecord, FuncRecord, VarRecord, PackageRecord}
+use Rattle.bk_func.specs.Records.{ValueRecord, BlockRecord, SigRecord, FuncRecord, PackageRecord}
 use Rattle.bk_func.specs.Form.{IsInForm, strict}
-use Rattle.bk_dump.specs.declared.read.errors.Fault.{Fault}
 use Rattle.bk_dump.specs.declared.read.draft.Stage.{Stage}
 use Rattle.bk_dump.specs.declared.read.draft.Stage.TheVariants.{Between, Function, Block}
 use Rattle.bk_dump.specs.Words.{is_name_byte}
 use Rattle.bk_dump.specs.Parts.{IsName}
-use Rattle.bk_dump_laws.specs.Lines.{IsWordType}
-use Rattle.bk_dump.specs.Trees.{MentionTree, ValueTree, LabelTree, EndTree, VarTree, ParameterTree, HeaderTree, OpenTree, BlockTree, FuncTree, no_mention, of_type, of_name}
-use Rattle.bk_dump.specs.Values.{braces_of, is_written}
-use Rattle.bk_dump.specs.declared.read.beside.Braces.TheVariants as braces
+use Rattle.bk_dump.specs.Trees.{MentionTree, ValueTree, EndTree, VarTree, HeaderTree, BlockTree, FuncTree, no_mention, of_type, of_name}
+use Rattle.bk_dump.specs.Values.{braces_of}
 use Rattle.bk_dump.specs.Drafts.{State, hex_value, pairs, padded, var_fault, with_var, declare_var, closed, has_block, divide_name, shift_name, at_start}
-use Rattle.bk_dump.specs.Resolved.{Scope, scope_of, place_of, symbol_of, argument_of, callee_of, aux_of, or_name, if_named, looked_up, value_of, each, block_of, func_of}
+use Rattle.bk_dump.specs.Resolved.{Scope, scope_of, place_of, symbol_of, aux_of, or_name, looked_up, value_of, each, block_of, func_of}
 use Rattle.bk_dump.specs.Texts.{lines, is_skipped, reading}
 use Rattle.bk_dump_laws.specs.Declarations.{Line, var_line, func_line, block_line, value_line, end_line, Declaration, variable, function, lines_of_block, lines_of_blocks, lines_of_all, IsWhole, names_of_all, declared_func, declared_var, funcs_from, vars_from}
-use Rattle.bk_dump.specs.Print.{symbol, tuple_types}
+use Rattle.bk_dump.specs.Print.{symbol}
 use Rattle.bk_dump_laws.specs.Printed.{FitsBraces, FitsValue, FitsBlock, FitsFunc, FitsVar, FitsText}
 use Rattle.bk_dump.specs.Views.{IsFormed}
 use Rattle.bk_dump.proofs.Runs.{ascii_named}
 use Rattle.bk_dump.proofs.Faults.{var_fits}
-use Rattle.bk_dump_laws.proofs.Running.{line_at, run, Declared, text_declares}
+use Rattle.bk_dump_laws.proofs.Running.{line_at, run, text_declares}
 use Rattle.bk_dump_laws.proofs.Steps.{unless_none, guarded, went_on}
 use Rattle.bk_dump_laws.proofs.Naming.{func_is, each_is, package_made, text_is_named, IsShortFunc, text_is_short}
 use Rattle.bk_dump_laws.proofs.Rereading.{value_is, block_is}

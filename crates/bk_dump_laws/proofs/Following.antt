@@ -1,16 +1,15 @@
 -- Lines that differ only in what no test looks at go through the reader alike.
-use Rattle.std.proofs.Common.{◌≡◌, ℕ, zero, suc, ◌+◌, ◌<◌, ◌≤◌, List, [], ◌∷◌, ◌++◌, length, map, ap, ◌∙◌, sym, refl, subst, arith, Bool, true, false, cond, Option, Some, None}
-use Rattle.std.specs.Prelude.{Result, Ok, Err, not, nat_lt, nat_le, ◌&&◌, ◌||◌}
+use Rattle.std.proofs.Common.{◌≡◌, ℕ, ◌+◌, List, [], ◌∷◌, ◌++◌, length, ap, ◌∙◌, sym, refl, subst, Bool, true, false, cond, Option, Some, None}
+use Rattle.std.specs.Prelude.{Result, Ok, Err, not, nat_lt, nat_le, ◌&&◌}
 use Rattle.std.specs.List.{AllZip}
 use Rattle.std.proofs.lemmas.List.{length-append}
-use Rattle.bk_func.specs.Records.{VarRecord}
 use Rattle.bk_dump.specs.declared.read.errors.Which.TheVariants as which
 use Rattle.bk_dump.specs.declared.read.errors.Fault.{Fault}
 use Rattle.bk_dump.specs.declared.read.errors.Fault.TheVariants.{Syntax, Limit, Duplicate}
 use Rattle.bk_dump.specs.declared.read.draft.Stage.{Stage}
 use Rattle.bk_dump.specs.declared.read.draft.Stage.TheVariants.{Between, Function, Block}
 use Rattle.bk_dump.specs.Trees.{ValueTree, LabelTree, EndTree, VarTree, HeaderTree, OpenTree, FuncTree}
-use Rattle.bk_dump.specs.Drafts.{State, entered, is_number, are_numbers, declares, is_taken, next_window, unless, unless_then, value_fault, with_value, with_next, add_value, with_end, end_fault, end_block, with_var, var_fault, declare_var, are_fresh, parameter_names, opened, header_fault, with_func, declare_func, closed, has_block, block_fault, with_block, open_block, finished_function, finished_at, finished, at_start}
+use Rattle.bk_dump.specs.Drafts.{State, entered, is_number, are_numbers, declares, is_taken, next_window, unless, unless_then, value_fault, with_value, with_next, add_value, with_end, end_fault, end_block, with_var, var_fault, declare_var, are_fresh, parameter_names, opened, header_fault, with_func, declare_func, closed, has_block, block_fault, with_block, open_block, finished_at, finished, at_start}
 use Rattle.bk_dump_laws.specs.Declarations.{Line, var_line, func_line, block_line, value_line, end_line, declared_func}
 use Rattle.bk_dump_laws.proofs.Declaring.{unless_ok, then_ok, with_open, func_opened}
 use Rattle.bk_dump_laws.proofs.Running.{declared_line, behind_line, inside_line, line_at, go_on, run}

@@ -1,9 +1,8 @@
 -- In a function in form a value whose type is a list of types stands for the results of a function, and there are some.
-use Rattle.std.proofs.Common.{◌≡◌, ℕ, ℤ, pos, negsuc, zero, suc, ◌+◌, ◌<◌, ◌≤◌, List, [], ◌∷◌, length, ap, ◌∙◌, sym, refl, subst, arith, Bool, true, false, cond, Option, Some, None, ◌⊎◌, inl, inr, ⊎_elim, get_or}
-use Rattle.std.specs.Prelude.{codes, ◌==◌, ◌&&◌, ◌||◌, nat_lt, MatchBool, ◌≤ℤ◌, ◌<ℤ◌}
-use Rattle.std.specs.List.{AllByRecursion, Contains, find, slice_get}
+use Rattle.std.proofs.Common.{◌≡◌, ℕ, ℤ, pos, negsuc, ◌+◌, ◌<◌, ◌≤◌, List, [], ◌∷◌, length, ap, ◌∙◌, sym, refl, subst, arith, Bool, true, false, cond, Some, None, ◌⊎◌, inl, inr, ⊎_elim, get_or}
+use Rattle.std.specs.Prelude.{◌==◌, ◌&&◌, ◌||◌}
+use Rattle.std.specs.List.{AllByRecursion, Contains, find}
 use Rattle.std.proofs.lemmas.Bool.{cases_lt}
-use Rattle.std.proofs.lemmas.Bool.Decides.{nat_tests}
 use Rattle.std.proofs.lemmas.Option.{same_Some, slice_get-get_or}
 use Rattle.std.proofs.lemmas.Int.{ints}
 use Rattle.bk_ops.specs.Table.{entry, row, is_op, is_width, info_of, unknown}
@@ -27,7 +26,7 @@ use Rattle.bk_func.specs.Records.{ValueRecord, BlockRecord, SigRecord, FuncRecor
 use Rattle.bk_func.specs.Form.{IsInForm, strict}
 use Rattle.bk_func.specs.Form.Parts.{NamesInValue, IsBetween, InRange, HasRange}
 use Rattle.bk_func.specs.Form.Shapes.{HasTypes, Gives, GivesArgument, GivesResult, GivesByType, GivesWord, GivesResults, GivesList, IsData, FitsWord}
-use Rattle.bk_func.specs.Form.Signatures.{Setting, sig_in, sig_named, sig_of, ResultOf}
+use Rattle.bk_func.specs.Form.Signatures.{Setting, sig_in, sig_of, ResultOf}
 use Rattle.bk_func.specs.Symbols.{no_sig}
 use Rattle.bk_form.proofs.Named.{callee_from}
 use Rattle.bk_dump_laws.specs.Lines.{IsWordType}

@@ -1,6 +1,6 @@
 -- No line has two forms where both may stand.
-use Rattle.std.proofs.Common.{◌≡◌, ◌≢◌, ℕ, zero, suc, ◌+◌, ◌<◌, ◌≤◌, List, [], ◌∷◌, ◌++◌, length, take, drop, ap, ◌∙◌, sym, refl, subst, arith, append_assoc, append-nil, Bool, true, false, cond, Option, Some, None, ◌⊎◌, inl, inr, ⊎_elim}
-use Rattle.std.specs.Prelude.{codes, ◌==◌, ◌&&◌, ◌||◌, min}
+use Rattle.std.proofs.Common.{◌≡◌, ◌≢◌, ℕ, suc, ◌+◌, ◌≤◌, List, [], ◌∷◌, ◌++◌, length, drop, ap, ◌∙◌, sym, refl, subst, arith, true, false, cond, ◌⊎◌, inl, inr, ⊎_elim}
+use Rattle.std.specs.Prelude.{codes, ◌==◌}
 use Rattle.std.specs.Char.{is_ascii_digit}
 use Rattle.std.specs.List.{AllByRecursion, AllZip, prefix_len}
 use Rattle.std.specs.Str.Parse.{AllDigits}
@@ -15,7 +15,7 @@ use Rattle.bk_dump.specs.Words.{is_name_byte, is_plain_byte}
 use Rattle.bk_dump.specs.Print.{type_name}
 use Rattle.bk_dump.specs.Trees.{ValueTree, LabelTree, EndTree, VarTree, ParameterTree, HeaderTree}
 use Rattle.bk_dump.specs.Blocks.{kind_word}
-use Rattle.bk_dump.specs.Parts.{Part, word, mark, bytes_of, AreBlanks, BeginsBlank, Apart, Lays, Spells, IsPlainName, IsDecimal, IsNumbered, IsBackArrow, behind_commas, listed}
+use Rattle.bk_dump.specs.Parts.{Part, word, mark, bytes_of, AreBlanks, BeginsBlank, Lays, Spells, IsPlainName, IsDecimal, IsNumbered, IsBackArrow, behind_commas, listed}
 use Rattle.bk_dump_laws.specs.Lines.{IsVarLine, IsFuncLine, IsBlockLine, IsValueLine, IsEndLine, AreBlocks, IsPlaceType, IsPlace, IsParameter, AreResults}
 use Rattle.bk_dump.proofs.Numbers.{digit_is}
 use Rattle.bk_dump.proofs.Runs.{all_pass, both_hold}

@@ -1,33 +1,31 @@
 -- The reader goes through declarations exactly where they keep the limits of a text.
-use Rattle.std.proofs.Common.{◌≡◌, ◌≢◌, ℕ, zero, suc, ◌+◌, ◌<◌, ◌≤◌, List, [], ◌∷◌, ◌++◌, length, map, ap, ◌∙◌, sym, refl, subst, arith, append_assoc, append-nil, get_or, Bool, true, false, cond, Option, Some, None}
-use Rattle.std.specs.Prelude.{Result, Ok, Err, All, not, nat_lt, nat_le, ◌&&◌, ◌||◌, ◌==◌, IfSome}
+use Rattle.std.proofs.Common.{◌≡◌, ◌≢◌, ℕ, suc, ◌+◌, ◌<◌, ◌≤◌, List, [], ◌∷◌, ◌++◌, length, map, ap, ◌∙◌, sym, refl, subst, arith, append_assoc, append-nil, get_or, Bool, true, false, cond, Option, Some, None}
+use Rattle.std.specs.Prelude.{Result, Ok, All, not, nat_lt, nat_le, ◌&&◌, ◌||◌, ◌==◌, IfSome}
 use Rattle.std.specs.Bool.{Decides}
-use Rattle.std.specs.List.{AllPairs, list_any, list_all}
+use Rattle.std.specs.List.{AllPairs, list_any}
 use Rattle.std.specs.Str.{bytes_eq}
 use Rattle.std.proofs.lemmas.Bool.{eqb-true, eq-eqb}
 use Rattle.std.proofs.lemmas.Bool.Decides.{nat_tests}
-use Rattle.std.proofs.lemmas.List.{length-append, get_or_append_left, get_or_default}
+use Rattle.std.proofs.lemmas.List.{length-append, get_or_append_left}
 use Rattle.std.proofs.lemmas.List.Elements.{All-nil, All-cons, All-head, All-tail}
 use Rattle.std.proofs.lemmas.List.Folds.{list_any_at, list_any_none}
 use Rattle.std.proofs.lemmas.List.Quantifiers.{all_pairs_push}
 use Rattle.std.proofs.lemmas.Slice.Eq.{bytes_eq-Decides}
 use Rattle.bk_dump.specs.declared.read.errors.Which.TheVariants as which
 use Rattle.bk_dump.specs.declared.read.errors.Fault.{Fault}
-use Rattle.bk_dump.specs.declared.read.errors.Fault.TheVariants.{Syntax, Limit, Duplicate}
-use Rattle.bk_dump.specs.declared.read.draft.Stage.{Stage}
+use Rattle.bk_dump.specs.declared.read.errors.Fault.TheVariants.{Limit}
 use Rattle.bk_dump.specs.declared.read.draft.Stage.TheVariants.{Between, Function, Block}
 use Rattle.bk_dump.specs.Trees.{ValueTree, LabelTree, EndTree, VarTree, HeaderTree, OpenTree, BlockTree, FuncTree}
-use Rattle.bk_dump.specs.Drafts.{State, entered, is_number, are_numbers, declares, control_is_number, is_reserved, is_declared, is_taken, next_window, unless, unless_then, value_fault, with_value, with_next, add_value, with_end, end_fault, end_block, with_var, var_fault, declare_var, are_fresh, parameter_names, opened, header_fault, with_func, declare_func, closed, has_block, block_fault, with_block, open_block, finished_at, finished, at_start}
+use Rattle.bk_dump.specs.Drafts.{State, entered, is_number, are_numbers, declares, control_is_number, is_reserved, is_declared, is_taken, unless, unless_then, value_fault, with_value, with_next, add_value, with_end, end_fault, end_block, with_var, var_fault, are_fresh, parameter_names, opened, header_fault, with_func, declare_func, block_fault, with_block, open_block, finished_at, finished, at_start}
 use Rattle.bk_func.specs.Records.{PackageRecord}
 use Rattle.bk_dump.specs.Resolved.{package_of}
 use Rattle.bk_dump.specs.Texts.{reading}
-use Rattle.bk_dump_laws.specs.Declarations.{SpellsAll, Line, var_line, func_line, block_line, value_line, end_line, Declaration, variable, function, lines_of_blocks, lines_of_all, IsWhole, names_of_all, value_ids, block_ids, declared_func, declared_var, funcs_from, vars_from}
-use Rattle.bk_dump_laws.specs.Naming.{Differ}
-use Rattle.bk_dump_laws.specs.Limits.{IsNumber, AreNumbers, AreDistinct, HasNumbers, KeepsFunction, Keeps, func_count, var_count, KeepsWindow, KeepsLimits, SpellsPackage}
-use Rattle.bk_dump_laws.proofs.Declaring.{unless_ok, then_ok, with_open, func_opened}
+use Rattle.bk_dump_laws.specs.Declarations.{Line, var_line, func_line, block_line, value_line, end_line, Declaration, variable, function, lines_of_blocks, lines_of_all, IsWhole, names_of_all, value_ids, block_ids, declared_func, funcs_from, vars_from}
+use Rattle.bk_dump_laws.specs.Limits.{IsNumber, AreNumbers, HasNumbers, KeepsFunction, Keeps, func_count, var_count, KeepsWindow, KeepsLimits, SpellsPackage}
+use Rattle.bk_dump_laws.proofs.Declaring.{unless_ok, then_ok}
 use Rattle.bk_dump_laws.proofs.Expecting.{whole_tail, whole_head}
 use Rattle.bk_dump.proofs.Faults.{first, middle, third}
-use Rattle.bk_dump_laws.proofs.Running.{line_at, go_on, run, Declared, text_declares, reads_declared}
+use Rattle.bk_dump_laws.proofs.Running.{line_at, go_on, run, text_declares, reads_declared}
 use Rattle.bk_dump_laws.proofs.Steps.{unless_none, then_none, new_var, fresh_block, went_on}
 use Rattle.bk_dump_laws.proofs.Leaving.{values_to, more_values, block_to, blocks_to, block_is, func_to, values_run, label_run, end_run, regrouped, blocks_run, close_run, named, closed_with, leaves, id_of, some_blocks, opened_run, Left, run_leaves}
 

@@ -1,15 +1,13 @@
 -- What stands in brackets and braces beside the arguments of a value: read exactly where its parts spell it.
-use Rattle.std.proofs.Common.{◌≡◌, ◌≢◌, ℕ, ℤ, pos, negsuc, zero, suc, ◌+◌, ◌-◌, ◌*◌, ◌^◌, ◌<◌, ◌≤◌, min, List, [], ◌∷◌, ◌++◌, length, take, ap, ◌∙◌, sym, refl, subst, arith, append_assoc, append-nil, Bool, true, false, cond, Option, Some, None, ◌⊎◌, inl, inr, ⊎_elim}
-use Rattle.std.specs.Prelude.{codes, ◌==◌, ◌&&◌, ◌||◌, nat_lt, nat_le, slice_index}
+use Rattle.std.proofs.Common.{◌≡◌, ℕ, ℤ, pos, negsuc, suc, ◌+◌, ◌-◌, ◌*◌, ◌^◌, ◌<◌, ◌≤◌, min, List, [], ◌∷◌, ◌++◌, length, take, ap, ◌∙◌, sym, refl, subst, arith, append_assoc, Bool, true, false, cond, Option, Some, None, ◌⊎◌, inl, inr, ⊎_elim}
+use Rattle.std.specs.Prelude.{codes, ◌==◌, ◌&&◌, ◌||◌, nat_lt, nat_le}
 use Rattle.std.specs.Char.{is_ascii_digit}
 use Rattle.std.specs.List.{AllByRecursion, prefix_len}
-use Rattle.std.specs.Option.{option_map, option_map_or, is_some}
+use Rattle.std.specs.Option.{option_map_or, is_some}
 use Rattle.std.specs.Str.{bytes_eq}
-use Rattle.std.specs.Str.Parse.{digits_value}
 use Rattle.std.proofs.lemmas.Bool.Decides.{nat_tests}
 use Rattle.bk_text.specs.Tokens.{is_blank}
 use Rattle.bk_ops.specs.declared.types.Ty.{Ty}
-use Rattle.bk_ops.specs.declared.table.Op.{Op}
 use Rattle.bk_dump.specs.declared.read.beside.Braces.{Braces}
 use Rattle.bk_dump.specs.declared.read.beside.Braces.TheVariants as braces
 use Rattle.bk_dump.specs.declared.read.beside.Square.{Square}
@@ -18,15 +16,15 @@ use Rattle.bk_dump.specs.Front.{◌>>=◌, or_else, unblanked, after, mark_at, r
 use Rattle.bk_dump.specs.Words.{is_name_byte, is_plain_byte, is_word_byte, name_at, word_at, decimal_at}
 use Rattle.bk_dump.specs.Types.{one_type_at}
 use Rattle.bk_dump.specs.Trees.{MentionTree, no_mention, of_type, of_name}
-use Rattle.bk_dump.specs.Values.{in_braces, aux_call_at, callee_at, made, where_marked, braces_at, kept, natural_at, negative_at, int_at, truth_at, in_square, square_at}
+use Rattle.bk_dump.specs.Values.{in_braces, aux_call_at, callee_at, made, braces_at, kept, natural_at, negative_at, int_at, truth_at, in_square, square_at}
 use Rattle.bk_dump.specs.Parts.{Part, word, mark, Apart, Lays, IsName, IsDecimal}
-use Rattle.bk_dump_laws.specs.Lines.{IsOneType, IsKept, IsInt, IsTruth, bracketed, IsSquare, braced, IsBraces}
-use Rattle.bk_dump_laws.proofs.Again.{Stops, tests_of_digits}
+use Rattle.bk_dump_laws.specs.Lines.{IsKept, IsInt, IsTruth, bracketed, IsSquare, braced, IsBraces}
+use Rattle.bk_dump_laws.proofs.Again.{tests_of_digits}
 use Rattle.bk_dump.proofs.Runs.{all_pass, ascii_named}
 use Rattle.bk_dump.proofs.Shrinking.{bind_some, map_some, unless_true, if_true}
-use Rattle.bk_dump_laws.proofs.Laying.{some_is, unblanked_gap, unblanked_over, after_is, run_stops, stops_at, mark_gap, mark_reads, mark_lays, mark_front, other_mark, blank_unmarked, Halts, IsSolid, behind_word, names_solid, plains_solid, words_solid, other_word, other_begin, name_lays, name_reads, Reads, word_front, word_lays, word_reads}
-use Rattle.bk_dump_laws.proofs.LaidNumbers.{decimal_is, decimal_over, digits_solid, NoWord, free}
-use Rattle.bk_dump_laws.proofs.LaidLists.{LaysItem, ReadsItem, Item}
+use Rattle.bk_dump_laws.proofs.Laying.{some_is, unblanked_gap, unblanked_over, after_is, stops_at, mark_reads, mark_lays, other_mark, behind_word, other_begin, name_lays, name_reads, word_front, word_lays, word_reads}
+use Rattle.bk_dump_laws.proofs.LaidNumbers.{decimal_is, decimal_over, digits_solid, free}
+use Rattle.bk_dump_laws.proofs.LaidLists.{LaysItem, ReadsItem}
 use Rattle.bk_dump_laws.proofs.LaidEnds.{same_bytes}
 use Rattle.bk_dump_laws.proofs.LaidBlocks.{either}
 use Rattle.bk_dump_laws.proofs.LaidTypes.{one_item, IsOne}

@@ -1,18 +1,16 @@
 -- The lines that open a block: read exactly where their parts spell one.
-use Rattle.std.proofs.Common.{◌≡◌, ℕ, ◌+◌, ◌<◌, ◌≤◌, List, [], ◌∷◌, ◌++◌, length, ap, ◌∙◌, sym, refl, subst, arith, append-nil, Bool, true, false, cond, Option, Some, None, ◌⊎◌, inl, inr, ⊎_elim}
+use Rattle.std.proofs.Common.{◌≡◌, ℕ, ◌<◌, List, [], ◌∷◌, length, ap, ◌∙◌, sym, refl, subst, arith, append-nil, Bool, true, false, cond, Option, Some, None, ◌⊎◌, inl, inr, ⊎_elim}
 use Rattle.std.specs.Prelude.{codes, ◌==◌}
-use Rattle.std.specs.List.{AllZip}
 use Rattle.std.proofs.lemmas.Bool.Decides.{nat_tests}
-use Rattle.bk_text.specs.Tokens.{is_blank}
-use Rattle.bk_dump.specs.Front.{◌>>=◌, or_else, unblanked, after, mark_at, is_done, at_end}
+use Rattle.bk_dump.specs.Front.{◌>>=◌, or_else, unblanked, mark_at, is_done, at_end}
 use Rattle.bk_dump.specs.Words.{back_arrow_at, number_at, numbers_at}
 use Rattle.bk_dump.specs.Trees.{LabelTree}
 use Rattle.bk_dump.specs.Blocks.{some_preds_at, preds_at, label_at, block_at}
-use Rattle.bk_dump.specs.Parts.{Part, word, mark, AreBlanks, Apart, Lays, Spells, IsNumbered, IsBackArrow}
+use Rattle.bk_dump.specs.Parts.{Part, word, mark, AreBlanks, Lays, Spells, IsNumbered, IsBackArrow}
 use Rattle.bk_dump_laws.specs.Lines.{AreBlocks, IsBlockLine}
 use Rattle.bk_dump.proofs.Shrinking.{bind_some, if_true, unless_true}
-use Rattle.bk_dump_laws.proofs.Laying.{some_is, done_blanks, blanks_done, mark_reads, mark_lays, mark_not_done, other_mark, Halts}
-use Rattle.bk_dump_laws.proofs.LaidNumbers.{number_is, first_lays, first_reads, numbers_lays, numbers_reads, Numbered}
+use Rattle.bk_dump_laws.proofs.Laying.{some_is, done_blanks, blanks_done, mark_reads, mark_lays, mark_not_done, other_mark}
+use Rattle.bk_dump_laws.proofs.LaidNumbers.{number_is, first_lays, first_reads, numbers_lays, numbers_reads}
 
 -- what is done is nothing but blanks
 pub ended : {A : Type 0} (text : List ℕ) (x y : A) → at_end text x ≡ Some y → AreBlanks text × (x ≡ y)

@@ -1,5 +1,5 @@
 -- The lines that end a block: read exactly where their parts spell one.
-use Rattle.std.proofs.Common.{◌≡◌, ℕ, ◌+◌, ◌<◌, ◌≤◌, List, [], ◌∷◌, ◌++◌, length, ap, ◌∙◌, sym, refl, subst, arith, append-nil, append_assoc, Bool, true, false, cond, Option, Some, None, ◌⊎◌, inl, inr, ⊎_elim}
+use Rattle.std.proofs.Common.{◌≡◌, ℕ, ◌<◌, List, [], ◌∷◌, ◌++◌, length, ap, ◌∙◌, sym, refl, subst, arith, Bool, true, false, cond, Option, Some, None, inl, inr, ⊎_elim}
 use Rattle.std.specs.Prelude.{codes, ◌==◌, ◌&&◌}
 use Rattle.std.specs.List.{AllByRecursion, AllZip, find}
 use Rattle.std.specs.Option.{option_map}
@@ -9,17 +9,17 @@ use Rattle.std.proofs.lemmas.Bool.Decides.{nat_tests}
 use Rattle.bk_func.specs.declared.parts.Kind.{Kind}
 use Rattle.bk_func.specs.declared.parts.Kind.TheVariants.{Plain, If, First, Ret, Exit}
 use Rattle.bk_func.specs.declared.parts.Likely.{Likely}
-use Rattle.bk_dump.specs.Front.{◌>>=◌, or_else, unblanked, gap_at, mark_at}
+use Rattle.bk_dump.specs.Front.{◌>>=◌, or_else, gap_at, mark_at}
 use Rattle.bk_dump.specs.Words.{is_word_byte, word_at, arrow_at, number_at, next_number_at, numbers_at}
 use Rattle.bk_dump.specs.Values.{groups_at}
 use Rattle.bk_dump.specs.Trees.{EndTree}
-use Rattle.bk_dump.specs.Blocks.{kind_word, kinds, kind_of, succ_count, value_control_at, control_at, succs_at, mark_of, likely_of, kind_at, front_at, end_at}
-use Rattle.bk_dump.specs.Parts.{Part, word, mark, BeginsBlank, Apart, Lays, Spells, IsNumbered, IsGroup, IsArrow}
-use Rattle.bk_dump_laws.specs.Lines.{AreBlocks, AreGroups, IsControl, LeadsTo, AreSuccessors, IsEndLine}
+use Rattle.bk_dump.specs.Blocks.{kind_word, kinds, kind_of, value_control_at, control_at, succs_at, mark_of, likely_of, kind_at, front_at, end_at}
+use Rattle.bk_dump.specs.Parts.{Part, word, mark, Apart, Lays, Spells, IsNumbered, IsGroup, IsArrow}
+use Rattle.bk_dump_laws.specs.Lines.{AreBlocks, IsControl, LeadsTo, AreSuccessors, IsEndLine}
 use Rattle.bk_dump.proofs.Runs.{all_pass}
 use Rattle.bk_dump.proofs.Shrinking.{bind_some, map_some, if_true}
 use Rattle.bk_dump_laws.proofs.Laying.{some_is, mark_reads, mark_lays, other_mark, Halts, word_lays, word_reads}
-use Rattle.bk_dump_laws.proofs.LaidNumbers.{number_is, first_lays, first_reads, numbers_lays, numbers_reads, next_is, next_over, begins_of, NoWord, free, Ends}
+use Rattle.bk_dump_laws.proofs.LaidNumbers.{first_lays, first_reads, numbers_lays, numbers_reads, next_is, next_over, begins_of, NoWord, free, Ends}
 use Rattle.bk_dump_laws.proofs.LaidGroups.{groups_lays, groups_reads}
 use Rattle.bk_dump_laws.proofs.LaidBlocks.{either}
 

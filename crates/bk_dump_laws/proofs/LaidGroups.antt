@@ -1,14 +1,13 @@
 -- Lines laid out by parts: groups in round brackets, and those that end a line.
-use Rattle.std.proofs.Common.{◌≡◌, ◌≢◌, ℕ, zero, suc, ◌+◌, ◌<◌, ◌≤◌, List, [], ◌∷◌, ◌++◌, length, take, drop, ap, ◌∙◌, sym, refl, subst, arith, append_assoc, append-nil, Bool, true, false, cond, Option, Some, None}
-use Rattle.std.specs.Prelude.{codes, ◌==◌, not, nat_lt, position}
+use Rattle.std.proofs.Common.{◌≡◌, ◌≢◌, ℕ, zero, suc, ◌+◌, List, [], ◌∷◌, ◌++◌, length, take, drop, ap, ◌∙◌, sym, refl, subst, arith, append_assoc, Bool, true, false, cond, Option, Some, None}
+use Rattle.std.specs.Prelude.{codes, ◌==◌, not, nat_lt}
 use Rattle.std.specs.List.{AllByRecursion, AllZip, position_or_len}
 use Rattle.std.specs.Option.{option_map, option_map_or}
 use Rattle.std.proofs.lemmas.Bool.Decides.{nat_tests}
-use Rattle.bk_text.specs.Tokens.{is_blank}
-use Rattle.bk_dump.specs.Front.{◌>>=◌, unblanked, after, mark_at, onto, many, every, at_end, is_done, cut_at, up_to}
+use Rattle.bk_dump.specs.Front.{◌>>=◌, after, mark_at, onto, many, every, at_end, is_done, cut_at, up_to}
 use Rattle.bk_dump.specs.Words.{group_at}
 use Rattle.bk_dump.specs.Values.{groups_at}
-use Rattle.bk_dump.specs.Parts.{Part, word, mark, bytes_of, AreBlanks, Apart, Lays, IsGroup}
+use Rattle.bk_dump.specs.Parts.{Part, mark, AreBlanks, Lays, IsGroup}
 use Rattle.bk_dump.proofs.Every.{every_none, every_some}
 use Rattle.bk_dump.proofs.Shrinking.{bind_some, map_some, if_true, group_shrinks}
 use Rattle.bk_dump_laws.proofs.Laying.{some_is, done_blanks, blanks_done, blank_empty, mark_gap, mark_over}

@@ -1,25 +1,22 @@
 -- The lines that open a function: read exactly where their parts spell one.
-use Rattle.std.proofs.Common.{◌≡◌, ℕ, zero, suc, ◌+◌, ◌<◌, ◌≤◌, List, [], ◌∷◌, ◌++◌, length, ap, ◌∙◌, sym, refl, subst, arith, append_assoc, append-nil, Bool, true, false, cond, Option, Some, None, ◌⊎◌, inl, inr, ⊎_elim}
-use Rattle.std.specs.Prelude.{codes, ◌==◌, nat_lt}
+use Rattle.std.proofs.Common.{◌≡◌, ℕ, ◌≤◌, List, [], ◌∷◌, ◌++◌, length, ap, ◌∙◌, sym, refl, subst, arith, Bool, true, false, cond, Option, Some, None, inl, inr, ⊎_elim}
+use Rattle.std.specs.Prelude.{codes, nat_lt}
 use Rattle.std.specs.List.{AllZip}
 use Rattle.std.specs.Option.{option_map, option_map_or}
 use Rattle.std.proofs.lemmas.Bool.Decides.{nat_tests}
-use Rattle.bk_text.specs.Tokens.{is_blank}
 use Rattle.bk_ops.specs.declared.types.Ty.{Ty}
-use Rattle.bk_dump.specs.Front.{◌>>=◌, or_else, mark_at, is_done, at_end, onto, every}
+use Rattle.bk_dump.specs.Front.{◌>>=◌, or_else, mark_at, is_done, at_end}
 use Rattle.bk_dump.specs.Words.{is_name_byte, is_plain_byte, name_at, plain_at}
 use Rattle.bk_dump.specs.Types.{place_type_at, next_type_at}
 use Rattle.bk_dump.specs.Trees.{ParameterTree, HeaderTree}
-use Rattle.bk_dump.specs.Headers.{func_name_at, parameter_at, next_parameter_at, to_bracket, some_parameters_at, parameters_at, types_at, several_at, single_at, results_at, header_at}
-use Rattle.bk_dump.specs.Parts.{Part, word, mark, AreBlanks, BeginsBlank, Apart, Lays, Spells, behind_commas, listed, IsName}
-use Rattle.bk_dump_laws.specs.Lines.{IsPlace, IsPlaceType, IsParameter, AreResults, IsFuncLine}
-use Rattle.bk_dump_laws.proofs.Again.{Stops}
+use Rattle.bk_dump.specs.Headers.{func_name_at, parameter_at, next_parameter_at, some_parameters_at, parameters_at, types_at, several_at, single_at, results_at, header_at}
+use Rattle.bk_dump.specs.Parts.{Part, word, mark, AreBlanks, Apart, Lays, Spells, behind_commas, listed, IsName}
+use Rattle.bk_dump_laws.specs.Lines.{IsPlace, IsParameter, AreResults, IsFuncLine}
 use Rattle.bk_dump.proofs.Every.{Shrinks}
 use Rattle.bk_dump.proofs.Shrinking.{bind_some, map_some, unless_true, next_type_shrinks, next_parameter_shrinks}
-use Rattle.bk_dump_laws.proofs.Laying.{some_is, done_blanks, blanks_done, mark_reads, mark_lays, other_mark, blank_unmarked, mark_not_done, Halts, plains_solid, names_solid, word_not_done, apart_of, name_apart, word_marked, name_lays, name_reads, plain_lays, plain_reads, other_word, mark_gap}
-use Rattle.bk_dump_laws.proofs.LaidNumbers.{NoWord, free}
+use Rattle.bk_dump_laws.proofs.Laying.{some_is, done_blanks, blanks_done, mark_reads, mark_lays, mark_not_done, plains_solid, word_not_done, apart_of, name_apart, word_marked, name_lays, name_reads, plain_lays, plain_reads, other_word, mark_gap}
 use Rattle.bk_dump_laws.proofs.LaidBlocks.{either, ended, ends_here}
-use Rattle.bk_dump_laws.proofs.LaidLists.{LaysItem, ReadsItem, Item, next_at, listed_at, LaysListed, listed_lays, listed_reads, bracket_halts}
+use Rattle.bk_dump_laws.proofs.LaidLists.{Item, next_at, listed_at, listed_lays, listed_reads, bracket_halts}
 use Rattle.bk_dump_laws.proofs.LaidTypes.{place_item}
 
 -- Parameters.

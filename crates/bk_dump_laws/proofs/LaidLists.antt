@@ -1,12 +1,12 @@
 -- Lists laid out by parts, with commas between what they hold, up to a closing bracket.
-use Rattle.std.proofs.Common.{◌≡◌, ℕ, zero, suc, ◌+◌, ◌<◌, ◌≤◌, List, [], ◌∷◌, ◌++◌, length, ap, ◌∙◌, sym, refl, subst, arith, append_assoc, Bool, true, false, cond, Option, Some, None}
+use Rattle.std.proofs.Common.{◌≡◌, ℕ, zero, suc, ◌<◌, List, [], ◌∷◌, ◌++◌, length, ap, ◌∙◌, sym, refl, subst, arith, append_assoc, Bool, false, Option, Some, None}
 use Rattle.std.specs.Prelude.{codes}
 use Rattle.std.specs.List.{AllZip}
 use Rattle.std.specs.Option.{option_map, option_map_or}
 use Rattle.bk_dump.specs.Front.{◌>>=◌, mark_at, onto, many, every}
 use Rattle.bk_dump.specs.Words.{is_name_byte, is_plain_byte}
 use Rattle.bk_dump.specs.Headers.{to_bracket}
-use Rattle.bk_dump.specs.Parts.{Part, word, mark, Lays, behind_commas, listed}
+use Rattle.bk_dump.specs.Parts.{Part, mark, Lays, behind_commas, listed}
 use Rattle.bk_dump.proofs.Every.{Shrinks, every_none, every_some}
 use Rattle.bk_dump.proofs.Shrinking.{bind_some, map_some}
 use Rattle.bk_dump_laws.proofs.Laying.{some_is, mark_reads, mark_lays, other_mark, Halts}

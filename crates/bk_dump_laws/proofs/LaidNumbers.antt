@@ -1,23 +1,23 @@
 -- Lines laid out by parts: numbers, one and many, and the groups that end a line.
-use Rattle.std.proofs.Common.{◌≡◌, ◌≢◌, ℕ, zero, suc, ◌+◌, ◌-◌, ◌^◌, ◌<◌, ◌≤◌, min, List, [], ◌∷◌, ◌++◌, length, take, drop, ap, ◌∙◌, sym, refl, subst, arith, append_assoc, append-nil, Bool, true, false, cond, Option, Some, None, ◌⊎◌, inl, inr, ⊎_elim}
-use Rattle.std.specs.Prelude.{codes, ◌==◌, ◌||◌, ◌&&◌, nat_lt, slice_index, position}
+use Rattle.std.proofs.Common.{◌≡◌, ℕ, zero, suc, ◌+◌, ◌^◌, ◌<◌, min, List, [], ◌∷◌, ◌++◌, length, take, drop, ap, ◌∙◌, sym, refl, subst, arith, append_assoc, Bool, true, false, cond, Option, Some, None}
+use Rattle.std.specs.Prelude.{◌==◌, ◌||◌, ◌&&◌, nat_lt, slice_index}
 use Rattle.std.specs.Char.{is_ascii_digit}
-use Rattle.std.specs.List.{prefix_len, AllByRecursion, AllZip}
+use Rattle.std.specs.List.{prefix_len, AllZip}
 use Rattle.std.specs.Option.{option_map, option_map_or}
-use Rattle.std.specs.Str.Parse.{AllDigits, digits_value}
+use Rattle.std.specs.Str.Parse.{digits_value}
 use Rattle.std.proofs.lemmas.Bool.Decides.{nat_tests}
 use Rattle.std.proofs.lemmas.List.{drop_at, take_at, take-append-drop, get_or_append_left}
 use Rattle.std.proofs.lemmas.List.Folds.{length-prefix_len}
 use Rattle.bk_text.specs.Tokens.{is_blank}
-use Rattle.bk_dump.specs.Front.{◌>>=◌, unblanked, gap_at, after, mark_at, run_at, onto, many, every, at_end, is_done, cut_at, up_to}
-use Rattle.bk_dump.specs.Words.{digits_len, digits_at, decimal_at, number_at, next_number_at, numbers_at, group_at}
-use Rattle.bk_dump.specs.Parts.{Part, word, mark, bytes_of, AreBlanks, BeginsBlank, Apart, Lays, IsDecimal, IsNumbered, IsGroup}
+use Rattle.bk_dump.specs.Front.{◌>>=◌, unblanked, gap_at, after, run_at, onto, many, every}
+use Rattle.bk_dump.specs.Words.{digits_len, digits_at, decimal_at, number_at, next_number_at, numbers_at}
+use Rattle.bk_dump.specs.Parts.{Part, word, mark, BeginsBlank, Apart, Lays, IsDecimal, IsNumbered}
 use Rattle.bk_dump.proofs.Runs.{front_append}
 use Rattle.bk_dump.proofs.Numbers.{front_digits}
 use Rattle.bk_dump_laws.proofs.Again.{Stops, after_again, tests_of_digits}
 use Rattle.bk_dump.proofs.Every.{every_none, every_some}
-use Rattle.bk_dump.proofs.Shrinking.{bind_some, map_some, unless_true, if_true, next_number_shrinks, group_shrinks}
-use Rattle.bk_dump_laws.proofs.Laying.{some_is, run_stops, stops_at, unblanked_gap, unblanked_over, after_is, done_blanks, blanks_done, blank_empty, mark_gap, mark_over, mark_reads, Halts, IsSolid, behind_word, Reads}
+use Rattle.bk_dump.proofs.Shrinking.{bind_some, map_some, unless_true, if_true, next_number_shrinks}
+use Rattle.bk_dump_laws.proofs.Laying.{some_is, run_stops, stops_at, unblanked_gap, unblanked_over, after_is, blank_empty, Halts, IsSolid, behind_word}
 
 -- One number.
 

@@ -1,24 +1,24 @@
 -- Types by their names, and between `<` and `>`: read exactly where their parts spell one.
-use Rattle.std.proofs.Common.{◌≡◌, ◌≢◌, ℕ, zero, suc, ◌+◌, ◌<◌, ◌≤◌, List, [], ◌∷◌, ◌++◌, length, ap, ◌∙◌, sym, refl, subst, arith, append_assoc, Bool, true, false, cond, Option, Some, None, ◌⊎◌, inl, inr, ⊎_elim}
+use Rattle.std.proofs.Common.{◌≡◌, ◌≢◌, ℕ, suc, ◌<◌, List, [], ◌∷◌, ◌++◌, length, ap, ◌∙◌, sym, refl, subst, arith, Bool, true, false, cond, Option, Some, ◌⊎◌, inl, inr, ⊎_elim}
 use Rattle.std.specs.Prelude.{codes, ◌==◌, ◌&&◌, ◌||◌, nat_lt, slice_index}
-use Rattle.std.specs.List.{AllByRecursion, AllZip, find}
+use Rattle.std.specs.List.{AllByRecursion, find}
 use Rattle.std.specs.Option.{option_map}
 use Rattle.std.specs.Str.{bytes_eq}
 use Rattle.std.proofs.lemmas.Bool.Decides.{nat_tests}
 use Rattle.bk_ops.specs.declared.types.Ty.{Ty}
 use Rattle.bk_ops.specs.declared.types.Ty.TheVariants.{Bool as Truth, Int8, Uint8, Int16, Uint16, Int32, Uint32, Int64, Uint64, Int, Uint, Uintptr, Ptr, Mem, Void, Tuple}
 use Rattle.bk_dump.specs.Front.{◌>>=◌}
-use Rattle.bk_dump.specs.Words.{is_plain_byte, plain_at}
+use Rattle.bk_dump.specs.Words.{plain_at}
 use Rattle.bk_dump.specs.Types.{word_types, is_pointer, word_type, named_type, with_type, place_type_at, one_type_at, is_word_type}
 use Rattle.bk_dump.specs.Print.{type_name}
-use Rattle.bk_dump.specs.Parts.{Part, word, mark, Apart, Lays, IsPlainName}
-use Rattle.bk_dump_laws.specs.Lines.{IsWordType, IsPointer, IsPlaceType, IsOneType, IsPlace}
+use Rattle.bk_dump.specs.Parts.{Part, word, Lays}
+use Rattle.bk_dump_laws.specs.Lines.{IsWordType, IsPointer, IsOneType, IsPlace}
 use Rattle.bk_dump.proofs.Runs.{all_pass}
 use Rattle.bk_dump.proofs.Shrinking.{bind_some, map_some}
 use Rattle.bk_dump_laws.proofs.SpelledTypes.{is_single, word_type_again, named_type_again}
-use Rattle.bk_dump_laws.proofs.Laying.{some_is, Halts, plain_lays, plain_reads}
+use Rattle.bk_dump_laws.proofs.Laying.{some_is, plain_lays, plain_reads}
 use Rattle.bk_dump_laws.proofs.LaidNumbers.{free}
-use Rattle.bk_dump_laws.proofs.LaidLists.{LaysItem, ReadsItem, Item}
+use Rattle.bk_dump_laws.proofs.LaidLists.{Item}
 use Rattle.bk_dump_laws.proofs.LaidEnds.{found_passes, same_bytes}
 
 -- Pointers.

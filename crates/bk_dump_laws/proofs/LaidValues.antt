@@ -1,14 +1,13 @@
 -- The lines of values: read exactly where their parts spell one.
-use Rattle.std.proofs.Common.{◌≡◌, ◌≢◌, ℕ, ℤ, pos, zero, suc, ◌+◌, ◌^◌, ◌<◌, ◌≤◌, List, [], ◌∷◌, ◌++◌, length, ap, ◌∙◌, sym, refl, subst, arith, append_assoc, append-nil, Bool, true, false, cond, Option, Some, None, ◌⊎◌, inl, inr, ⊎_elim}
+use Rattle.std.proofs.Common.{◌≡◌, ℕ, ℤ, ◌^◌, ◌<◌, ◌≤◌, List, [], ◌∷◌, ◌++◌, length, ap, ◌∙◌, sym, refl, subst, arith, append_assoc, Bool, true, false, cond, Option, Some, None, ◌⊎◌, inl, inr, ⊎_elim}
 use Rattle.std.specs.Prelude.{codes, ◌==◌}
-use Rattle.std.specs.List.{AllByRecursion, AllZip}
+use Rattle.std.specs.List.{AllZip}
 use Rattle.std.specs.Option.{option_map, option_map_or, is_some}
 use Rattle.std.specs.Str.{bytes_eq}
 use Rattle.std.specs.Char.{is_ascii_digit}
-use Rattle.std.proofs.lemmas.Bool.Decides.{nat_tests}
 use Rattle.bk_text.specs.Tokens.{is_blank}
 use Rattle.bk_ops.specs.declared.types.Ty.{Ty}
-use Rattle.bk_ops.specs.declared.types.Ty.TheVariants.{Mem, Ptr, Tuple}
+use Rattle.bk_ops.specs.declared.types.Ty.TheVariants.{Tuple}
 use Rattle.bk_ops.specs.declared.table.Op.{Op}
 use Rattle.bk_ops.specs.declared.family.Family.{Family}
 use Rattle.bk_ops.specs.declared.family.Family.TheVariants as family
@@ -20,23 +19,22 @@ use Rattle.bk_dump.specs.declared.read.beside.Square.TheVariants as square
 use Rattle.bk_dump.specs.Front.{◌>>=◌, or_else, unblanked, mark_at, every, up_to}
 use Rattle.bk_dump.specs.Words.{is_name_byte, is_plain_byte, is_word_byte, plain_at, word_at, group_at, number_at, numbers_at}
 use Rattle.bk_dump.specs.Types.{word_type, is_word_type, with_type as named_with, place_type_at, one_type_at, next_type_at, memory_at, list_at, value_type_at}
-use Rattle.bk_dump.specs.Print.{type_name}
 use Rattle.bk_dump.specs.Trees.{MentionTree, ValueTree}
 use Rattle.bk_dump.specs.Values.{braces_of, square_of, constants_of, is_written, op_at, square_part, braces_part, square_first, braces_first, beside_at, ungrouped, left_at, head_at, groups_at, with_args, value_at}
-use Rattle.bk_dump.specs.Parts.{Part, word, mark, Apart, Lays, Spells, IsNameOf, IsNumbered, IsGroup, behind_commas, listed}
+use Rattle.bk_dump.specs.Parts.{Part, word, mark, Lays, Spells, IsNameOf, IsNumbered, IsGroup, behind_commas, listed}
 use Rattle.bk_dump_laws.specs.Lines.{IsPlaceType, IsOneType, IsPlace, IsType, IsBraces, IsSquare, AreGroups, AreValues, IsValueLine}
 use Rattle.bk_dump.proofs.Every.{Shrinks}
 use Rattle.bk_dump.proofs.Runs.{ascii_named}
 use Rattle.bk_dump.proofs.Shrinking.{bind_some, map_some, if_true, next_type_shrinks}
-use Rattle.bk_dump_laws.proofs.Laying.{some_is, word_unmarked, mark_reads, mark_lays, mark_gap, other_mark, blank_unmarked, Halts, plains_solid, plain_lays, plain_reads, word_lays, word_reads, other_word}
+use Rattle.bk_dump_laws.proofs.Laying.{some_is, word_unmarked, mark_reads, mark_lays, other_mark, blank_unmarked, Halts, plain_lays, plain_reads, word_lays, word_reads}
 use Rattle.bk_dump_laws.proofs.LaidNumbers.{number_is, first_lays, first_reads, numbers_lays, numbers_reads, NoWord, free}
 use Rattle.bk_dump_laws.proofs.LaidGroups.{group_lays, group_reads, groups_lays, groups_reads, group_of}
 use Rattle.bk_dump_laws.proofs.LaidBlocks.{either}
-use Rattle.bk_dump_laws.proofs.LaidEnds.{groups_word, groups_halt, groups_end, same_bytes}
-use Rattle.bk_dump_laws.proofs.LaidLists.{LaysItem, ReadsItem, Item, next_at, LaysEach, commas_lay, commas_read, commas_word, commas_halt, comma_halts}
-use Rattle.bk_dump_laws.proofs.LaidTypes.{place_item, one_item, IsOne, IsPlaceName, IsOneName, one_of_place, is_word, word_is}
+use Rattle.bk_dump_laws.proofs.LaidEnds.{groups_word, groups_end, same_bytes}
+use Rattle.bk_dump_laws.proofs.LaidLists.{ReadsItem, next_at, commas_lay, commas_read, commas_word, commas_halt, comma_halts}
+use Rattle.bk_dump_laws.proofs.LaidTypes.{place_item, one_item, IsOne, one_of_place, is_word, word_is}
 use Rattle.bk_dump_laws.proofs.SpelledTypes.{memory_is_no_word}
-use Rattle.bk_dump_laws.proofs.LaidBeside.{LaysBeside, Lacks, square_lays, square_reads, braces_lays, braces_reads}
+use Rattle.bk_dump_laws.proofs.LaidBeside.{Lacks, square_lays, square_reads, braces_lays, braces_reads}
 
 -- Types between `<` and `>`.
 

@@ -1,25 +1,23 @@
 -- The lines of variables: read exactly where their parts spell one.
-use Rattle.std.proofs.Common.{◌≡◌, ℕ, zero, suc, ◌+◌, ◌*◌, ◌/◌, ◌%◌, ◌^◌, ◌<◌, ◌≤◌, min, List, [], ◌∷◌, ◌++◌, length, take, drop, ap, ◌∙◌, sym, refl, subst, arith, append_assoc, append-nil, Bool, true, false, cond, Option, Some, None, ◌⊎◌, inl, inr, ⊎_elim}
-use Rattle.std.specs.Prelude.{codes, ◌==◌, ◌&&◌, nat_lt, nat_le}
+use Rattle.std.proofs.Common.{◌≡◌, ℕ, ◌*◌, ◌/◌, ◌%◌, ◌<◌, ◌≤◌, List, [], ◌∷◌, ◌++◌, length, take, drop, ap, ◌∙◌, sym, refl, subst, arith, true, cond, Option, Some, None, ◌⊎◌, inl, inr, ⊎_elim}
+use Rattle.std.specs.Prelude.{codes}
 use Rattle.std.specs.Char.{is_ascii_digit, is_ascii_hexdigit}
-use Rattle.std.specs.List.{AllByRecursion, prefix_len}
-use Rattle.std.specs.Option.{option_map, option_map_or}
+use Rattle.std.specs.List.{AllByRecursion}
+use Rattle.std.specs.Option.{option_map_or}
 use Rattle.std.specs.Str.{bytes_eq}
-use Rattle.std.specs.Str.Parse.{AllDigits}
 use Rattle.std.proofs.lemmas.Bool.Decides.{nat_tests}
 use Rattle.std.proofs.lemmas.List.{drop_at, take_at, take-append-drop}
 use Rattle.std.proofs.lemmas.List.Folds.{length-prefix_len}
-use Rattle.bk_text.specs.Tokens.{is_blank}
-use Rattle.bk_dump.specs.Front.{◌>>=◌, unblanked, mark_at, is_done, at_end}
+use Rattle.bk_dump.specs.Front.{◌>>=◌, unblanked, mark_at, at_end}
 use Rattle.bk_dump.specs.Words.{is_name_byte, name_at, decimal_at}
 use Rattle.bk_dump.specs.Trees.{VarTree}
 use Rattle.bk_dump.specs.Headers.{is_hex_byte, hex_len, are_pairs, digits_to_end, hex_at, var_name_at, var_at}
-use Rattle.bk_dump.specs.Parts.{Part, word, mark, AreBlanks, Apart, Lays, Spells, IsName, IsDecimal}
+use Rattle.bk_dump.specs.Parts.{Part, word, mark, AreBlanks, Apart, Lays, Spells, IsName}
 use Rattle.bk_dump_laws.specs.Lines.{IsHex, IsSize, IsVarLine}
 use Rattle.bk_dump.proofs.Runs.{front_passes, front_append, ascii_named}
-use Rattle.bk_dump_laws.proofs.Again.{Stops, tests_of_digits}
+use Rattle.bk_dump_laws.proofs.Again.{tests_of_digits}
 use Rattle.bk_dump.proofs.Shrinking.{bind_some, if_true}
-use Rattle.bk_dump_laws.proofs.Laying.{some_is, unblanked_gap, unblanked_over, run_stops, stops_at, stop_fails, done_blanks, blanks_done, blank_unmarked, mark_reads, mark_lays, other_mark, Halts, IsSolid, behind_word, names_solid, apart_of, name_apart, name_lays, name_reads, Reads, word_front}
+use Rattle.bk_dump_laws.proofs.Laying.{some_is, unblanked_gap, blank_unmarked, mark_reads, mark_lays, Halts, IsSolid, behind_word, name_apart, name_lays, name_reads, word_front}
 use Rattle.bk_dump_laws.proofs.LaidNumbers.{decimal_is, decimal_over, digits_solid, NoWord, free}
 use Rattle.bk_dump_laws.proofs.LaidBlocks.{ended, ends_here}
 use Rattle.bk_dump_laws.proofs.LaidEnds.{same_bytes}

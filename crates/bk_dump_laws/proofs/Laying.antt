@@ -1,15 +1,15 @@
 -- Lines laid out by parts: what the readers of marks, words and names read at their front.
-use Rattle.std.proofs.Common.{◌≡◌, ℕ, zero, suc, ◌+◌, ◌-◌, ◌<◌, ◌≤◌, min, List, [], ◌∷◌, ◌++◌, length, take, drop, ap, ◌∙◌, sym, refl, subst, arith, append_assoc, append-nil, Bool, true, false, cond, Option, Some, None, ◌⊎◌, inl, inr, ⊎_elim}
-use Rattle.std.specs.Prelude.{codes, ◌==◌, ◌||◌, ◌&&◌}
+use Rattle.std.proofs.Common.{◌≡◌, ℕ, suc, ◌+◌, ◌<◌, List, [], ◌∷◌, ◌++◌, length, take, drop, ap, ◌∙◌, sym, refl, subst, arith, append-nil, Bool, true, false, cond, Option, Some, None}
+use Rattle.std.specs.Prelude.{◌==◌}
 use Rattle.std.specs.List.{prefix_len, AllByRecursion}
 use Rattle.std.specs.Str.{is_utf8}
 use Rattle.std.proofs.lemmas.Bool.Decides.{nat_tests}
 use Rattle.std.proofs.lemmas.List.{drop_at, take_at, take-append-drop}
 use Rattle.std.proofs.lemmas.List.Folds.{length-prefix_len}
 use Rattle.bk_text.specs.Tokens.{is_blank}
-use Rattle.bk_dump.specs.Front.{◌>>=◌, unblanked, gap_at, after, mark_at, run_at, front_at, is_done}
+use Rattle.bk_dump.specs.Front.{unblanked, after, mark_at, run_at, front_at, is_done}
 use Rattle.bk_dump.specs.Words.{is_name_byte, is_plain_byte, as_utf8, utf8_at, name_at, plain_at, is_word_byte, word_at}
-use Rattle.bk_dump.specs.Parts.{Part, word, mark, bytes_of, AreBlanks, BeginsBlank, Apart, Lays, IsNameOf, IsName, IsPlainName}
+use Rattle.bk_dump.specs.Parts.{Part, word, mark, AreBlanks, BeginsBlank, Apart, Lays, IsNameOf, IsName, IsPlainName}
 use Rattle.bk_dump.proofs.Runs.{front_passes, front_append}
 use Rattle.bk_dump_laws.proofs.Again.{Stops, after_again, utf8_again}
 use Rattle.bk_dump.proofs.Shrinking.{bind_some, if_true, unless_true}

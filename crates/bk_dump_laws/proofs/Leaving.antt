@@ -1,15 +1,13 @@
 -- What the reader leaves of the declarations that it goes through.
-use Rattle.std.proofs.Common.{◌≡◌, ℕ, zero, suc, ◌+◌, ◌<◌, ◌≤◌, List, [], ◌∷◌, ◌++◌, length, map, ap, ◌∙◌, sym, refl, subst, arith, append_assoc, append-nil, Bool, true, false, cond, Option, Some, None}
-use Rattle.std.specs.Prelude.{Result, Ok, Err, All, nat_lt}
+use Rattle.std.proofs.Common.{◌≡◌, ℕ, suc, ◌<◌, List, [], ◌∷◌, ◌++◌, length, map, ap, ◌∙◌, sym, refl, subst, arith, append_assoc, append-nil, true, cond, Option, Some, None}
+use Rattle.std.specs.Prelude.{Ok, Err, All, nat_lt}
 use Rattle.std.proofs.lemmas.Bool.Decides.{nat_tests}
 use Rattle.std.proofs.lemmas.List.{length-append}
-use Rattle.bk_func.specs.Records.{VarRecord}
-use Rattle.bk_dump.specs.declared.read.errors.Fault.{Fault}
 use Rattle.bk_dump.specs.declared.read.errors.Fault.TheVariants.{Syntax}
 use Rattle.bk_dump.specs.declared.read.draft.Stage.{Stage}
 use Rattle.bk_dump.specs.declared.read.draft.Stage.TheVariants.{Between, Function, Block}
-use Rattle.bk_dump.specs.Trees.{ValueTree, LabelTree, EndTree, VarTree, HeaderTree, OpenTree, BlockTree, FuncTree}
-use Rattle.bk_dump.specs.Drafts.{State, entered, unless, value_fault, with_value, with_next, add_value, with_end, end_fault, end_block, with_var, var_fault, declare_var, opened, header_fault, with_func, declare_func, closed, has_block, block_fault, with_block, open_block, finished_at, finished, at_start}
+use Rattle.bk_dump.specs.Trees.{ValueTree, LabelTree, EndTree, HeaderTree, OpenTree, BlockTree, FuncTree}
+use Rattle.bk_dump.specs.Drafts.{State, entered, value_fault, with_value, with_next, add_value, with_end, end_fault, end_block, with_var, var_fault, declare_var, opened, header_fault, with_func, declare_func, closed, has_block, block_fault, with_block, open_block, finished_at, finished, at_start}
 use Rattle.bk_dump_laws.specs.Declarations.{Line, var_line, func_line, block_line, value_line, end_line, Declaration, variable, function, lines_of_blocks, lines_of_all, IsWhole, names_of_all, value_ids, block_ids, declared_func, declared_var, funcs_from, vars_from}
 use Rattle.bk_dump_laws.proofs.Declaring.{unless_ok, then_ok, with_open, func_opened}
 use Rattle.bk_dump_laws.proofs.Expecting.{whole_tail, whole_head}

@@ -1,27 +1,25 @@
 -- The names of a package that a text reads as.
-use Rattle.std.proofs.Common.{◌≡◌, ◌≢◌, ℕ, zero, suc, ◌+◌, ◌-◌, ◌<◌, ◌≤◌, List, [], ◌∷◌, ◌++◌, length, take, map, ap, ◌∙◌, sym, refl, subst, arith, get_or, append_assoc, append-nil, Bool, true, false, cond, ◌⊎◌, ⊎_elim, inl, inr}
-use Rattle.std.specs.Prelude.{Result, Ok, Err, not, nat_lt, filter, All, Contains, codes, slice_index, slice_index_or, ◌==◌, ◌&&◌}
+use Rattle.std.proofs.Common.{◌≡◌, ◌≢◌, ℕ, zero, suc, ◌+◌, ◌-◌, ◌<◌, ◌≤◌, List, [], ◌∷◌, ◌++◌, length, take, map, ap, ◌∙◌, sym, refl, subst, arith, get_or, append_assoc, Bool, true, false, cond}
+use Rattle.std.specs.Prelude.{Result, Ok, Err, not, nat_lt, All, Contains, codes, slice_index, slice_index_or, ◌==◌, ◌&&◌}
 use Rattle.std.specs.List.{AllZip, AllPairs, AllByRecursion, sum_by, slice_split, onto_first}
 use Rattle.std.specs.Str.{IsUtf8}
-use Rattle.std.proofs.lemmas.Bool.Decides.{nat_tests}
-use Rattle.std.proofs.lemmas.List.{length-append, length-map, length-take, get_or_append_left}
-use Rattle.std.proofs.lemmas.List.Elements.{All-nil, All-cons, All-head, All-tail, All-weaker, All-get_or, All-from_recursion, All-contains}
+use Rattle.std.proofs.lemmas.List.{length-append, length-map, length-take}
+use Rattle.std.proofs.lemmas.List.Elements.{All-nil, All-cons, All-head, All-tail, All-weaker, All-from_recursion, All-contains}
 use Rattle.std.proofs.lemmas.List.Kept.{AllPairs-cons}
 use Rattle.std.proofs.lemmas.List.Sums.{sum_by-cons, sum_by-append}
 use Rattle.std.proofs.lemmas.Str.{IsUtf8-from_is_utf8}
 use Rattle.bk_func.specs.Records.{BlockRecord, SigRecord, FuncRecord, VarRecord, PackageRecord}
-use Rattle.bk_dump.specs.Drafts.{at_start}
-use Rattle.bk_dump.specs.Trees.{ValueTree, LabelTree, EndTree, VarTree, ParameterTree, HeaderTree, BlockTree, FuncTree}
+use Rattle.bk_dump.specs.Trees.{ValueTree, EndTree, ParameterTree, HeaderTree, BlockTree, FuncTree}
 use Rattle.bk_dump.specs.Words.{is_name_byte}
-use Rattle.bk_dump.specs.Parts.{Part, word, mark, bytes_of, Lays, IsName}
+use Rattle.bk_dump.specs.Parts.{Part, word, bytes_of, Lays, IsName}
 use Rattle.bk_dump.specs.Resolved.{◌>>=◌, each, func_of, block_of, scope_of, package_of}
 use Rattle.bk_dump.specs.Texts.{is_skipped, without_cr, lines_of, lines, reading}
-use Rattle.bk_dump_laws.specs.Declarations.{Line, IsLine, var_line, func_line, block_line, value_line, end_line, SpellsLine, Declaration, variable, function, lines_of_block, lines_of_blocks, lines_of_all, names_of_all, declared_func, declared_var, funcs_from, vars_from, SpellsAll}
+use Rattle.bk_dump_laws.specs.Declarations.{Line, var_line, func_line, block_line, value_line, end_line, SpellsLine, Declaration, variable, function, lines_of_block, lines_of_blocks, lines_of_all, names_of_all, declared_func, funcs_from, vars_from, SpellsAll}
 use Rattle.bk_dump_laws.specs.Limits.{KeepsFunction, Keeps, func_count, var_count, KeepsLimits}
 use Rattle.bk_dump_laws.specs.Naming.{func_places, var_places, func_names, Differ, names_size, HasNames}
 use Rattle.bk_dump.proofs.TextLines.{is_lf}
 use Rattle.bk_dump.proofs.Packages.{made_package}
-use Rattle.bk_dump_laws.proofs.Expecting.{kept, tail_is, head_is}
+use Rattle.bk_dump_laws.proofs.Expecting.{kept}
 use Rattle.bk_dump_laws.proofs.Running.{Declared, text_declares}
 use Rattle.bk_dump_laws.proofs.Keeping.{run_keeps}
 

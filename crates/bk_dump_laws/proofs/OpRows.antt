@@ -1,5 +1,5 @@
 -- The rows of the ops that stand in a text: which has a number in its row, and of which bytes its name is.
-use Rattle.std.proofs.Common.{◌≡◌, ℕ, List, [], ◌∷◌, ◌++◌, ap, ◌∙◌, sym, subst, refl, Bool, true, false, cond}
+use Rattle.std.proofs.Common.{◌≡◌, ℕ, List, [], ◌∷◌, ◌++◌, ap, ◌∙◌, refl, Bool, true, false, cond}
 use Rattle.std.specs.Prelude.{codes, ◌==◌}
 use Rattle.std.specs.List.{list_all, AllByRecursion}
 use Rattle.bk_ops.specs.declared.family.Family.{Family}

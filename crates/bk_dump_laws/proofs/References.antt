@@ -1,8 +1,7 @@
 -- References that were looked up: what is printed of them is looked up again.
-use Rattle.std.proofs.Common.{◌≡◌, ◌≢◌, ℕ, zero, suc, ◌+◌, ◌<◌, ◌≤◌, ◌^◌, List, [], ◌∷◌, ◌++◌, length, map, ap, ◌∙◌, sym, refl, subst, arith, get_or, Bool, true, false, cond, Option, Some, None, ◌⊎◌, inl, inr, ⊎_elim}
-use Rattle.std.specs.Prelude.{Result, Ok, Err, not, nat_lt, ◌==◌, ◌&&◌, slice_index_or, codes, position}
+use Rattle.std.proofs.Common.{◌≡◌, ℕ, zero, suc, ◌+◌, ◌<◌, ◌^◌, List, [], ◌∷◌, ◌++◌, length, map, ap, ◌∙◌, sym, refl, subst, arith, get_or, Bool, true, false, cond, Option, Some, None, ◌⊎◌, inl, inr, ⊎_elim}
+use Rattle.std.specs.Prelude.{Result, Ok, not, nat_lt, ◌==◌, ◌&&◌, slice_index_or, codes}
 use Rattle.std.specs.Fmt.{decimal}
-use Rattle.std.specs.List.{list_any, position_or_len}
 use Rattle.std.specs.Option.{option_map}
 use Rattle.std.specs.Str.{bytes_eq}
 use Rattle.std.proofs.lemmas.Bool.Decides.{nat_tests}
@@ -17,7 +16,7 @@ use Rattle.bk_ops.specs.declared.family.Family.{Family}
 use Rattle.bk_ops.specs.declared.family.Family.TheVariants as family
 use Rattle.bk_func.specs.declared.parts.Aux.{Aux}
 use Rattle.bk_func.specs.declared.parts.Aux.TheVariants as aux
-use Rattle.bk_dump.specs.Trees.{MentionTree, ParameterTree, no_mention, of_type, of_name}
+use Rattle.bk_dump.specs.Trees.{MentionTree, ParameterTree, of_name}
 use Rattle.bk_dump.specs.Drafts.{is_declared, are_fresh, divide_name, shift_name}
 use Rattle.bk_dump.specs.Print.{symbol, argument_name}
 use Rattle.bk_dump_laws.specs.Printed.{mention_of, parameters_of}

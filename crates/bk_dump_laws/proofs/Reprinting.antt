@@ -1,8 +1,8 @@
 -- The declarations that are printed of a package, beside those that it was read from.
-use Rattle.std.proofs.Common.{◌≡◌, ℕ, zero, suc, ◌+◌, ◌-◌, ◌*◌, ◌<◌, ◌≤◌, ◌^◌, List, [], ◌∷◌, ◌++◌, length, take, drop, map, replicate, ap, ◌∙◌, sym, refl, subst, arith, append_assoc, append-nil, Bool, true, false, cond, Option, Some, None}
-use Rattle.std.specs.Prelude.{Result, Ok, Err, All, not, nat_lt, slice_index_or}
+use Rattle.std.proofs.Common.{◌≡◌, ℕ, suc, ◌+◌, ◌-◌, ◌*◌, ◌<◌, ◌≤◌, ◌^◌, List, [], ◌∷◌, ◌++◌, length, take, drop, map, replicate, ap, ◌∙◌, sym, refl, subst, arith, append_assoc, append-nil, Bool, true, false, cond, Some, None}
+use Rattle.std.specs.Prelude.{Ok, All, not, nat_lt, slice_index_or}
 use Rattle.std.specs.Char.{digit_value}
-use Rattle.std.specs.List.{AllZip, AllByRecursion, position, position_or_len}
+use Rattle.std.specs.List.{AllZip, AllByRecursion, position_or_len}
 use Rattle.std.specs.Option.{unwrap_or}
 use Rattle.std.proofs.lemmas.Bool.Decides.{nat_tests}
 use Rattle.std.proofs.lemmas.List.{length-append, length-map, length-take, length-replicate, take_all}
@@ -10,8 +10,8 @@ use Rattle.std.proofs.lemmas.List.Elements.{All-nil, All-cons, All-append, All-t
 use Rattle.bk_func.specs.Records.{ValueRecord, BlockRecord, SigRecord, FuncRecord, VarRecord}
 use Rattle.bk_dump.specs.declared.read.beside.Braces.{Braces}
 use Rattle.bk_dump.specs.declared.read.beside.Braces.TheVariants as braces
-use Rattle.bk_dump.specs.Trees.{MentionTree, ValueTree, LabelTree, EndTree, VarTree, HeaderTree, BlockTree, FuncTree, no_mention, of_type, of_name}
-use Rattle.bk_dump.specs.Drafts.{parameter_names, hex_value, pairs, padded}
+use Rattle.bk_dump.specs.Trees.{MentionTree, ValueTree, EndTree, VarTree, HeaderTree, BlockTree, FuncTree}
+use Rattle.bk_dump.specs.Drafts.{hex_value, pairs, padded}
 use Rattle.bk_dump.specs.Parts.{Part}
 use Rattle.bk_dump_laws.specs.Lines.{IsBraces, IsValueLine}
 use Rattle.bk_dump.specs.Print.{symbol, hex_to, before}
@@ -24,7 +24,7 @@ use Rattle.bk_dump_laws.proofs.Expecting.{whole_tail, whole_head}
 use Rattle.bk_dump_laws.proofs.Naming.{IsShort, IsFunc, func_is, each_is, at_front}
 use Rattle.bk_dump_laws.proofs.Following.{SameHeader, SameLine}
 use Rattle.bk_dump_laws.proofs.References.{IsGiven, symbol_is, parameters_counted, arguments_fresh}
-use Rattle.bk_dump_laws.proofs.Rereading.{Values, Blocks, AreGiven, AllGiven, value_is, block_is, func_again, printed_func, both_more}
+use Rattle.bk_dump_laws.proofs.Rereading.{Values, Blocks, AreGiven, AllGiven, value_is, block_is, func_again, both_more}
 
 -- The bytes of variables.
 

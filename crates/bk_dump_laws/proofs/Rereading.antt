@@ -1,17 +1,17 @@
 -- What is printed of a function, read again, is the function.
-use Rattle.std.proofs.Common.{◌≡◌, ℕ, zero, suc, ◌+◌, ◌<◌, ◌≤◌, ◌^◌, List, [], ◌∷◌, ◌++◌, length, map, ap, ◌∙◌, sym, refl, subst, arith, Bool, true, false, cond, Option, Some, None}
-use Rattle.std.specs.Prelude.{Result, Ok, Err, codes}
+use Rattle.std.proofs.Common.{◌≡◌, ℕ, suc, ◌<◌, ◌≤◌, List, [], ◌∷◌, ◌++◌, length, map, ap, ◌∙◌, sym, refl, subst, arith, Option, Some, None}
+use Rattle.std.specs.Prelude.{Result, Ok, codes}
 use Rattle.std.specs.List.{AllZip, AllByRecursion}
 use Rattle.bk_ops.specs.declared.types.Ty.{Ty}
 use Rattle.bk_func.specs.declared.parts.Aux.{Aux}
 use Rattle.bk_func.specs.Records.{ValueRecord, BlockRecord, SigRecord, FuncRecord}
-use Rattle.bk_dump.specs.Trees.{MentionTree, ValueTree, LabelTree, EndTree, ParameterTree, HeaderTree, BlockTree, FuncTree}
-use Rattle.bk_dump.specs.Drafts.{declares, parameter_names}
+use Rattle.bk_dump.specs.Trees.{ValueTree, EndTree, ParameterTree, HeaderTree, BlockTree, FuncTree}
+use Rattle.bk_dump.specs.Drafts.{parameter_names}
 use Rattle.bk_dump_laws.specs.Declarations.{value_ids, block_ids, declared_func}
-use Rattle.bk_dump_laws.specs.Printed.{mention_of, value_tree, label_tree, end_tree, block_tree, parameters_of, header_tree}
+use Rattle.bk_dump_laws.specs.Printed.{value_tree, block_tree, header_tree}
 use Rattle.bk_dump.specs.Resolved.{◌>>=◌, Scope, scope_of, each, missing, unless, looked_up, value_of, missing_at_end, made_block, block_of, func_of}
-use Rattle.bk_dump_laws.proofs.Naming.{ok_is, bound, each_is, IsFunc, func_is}
-use Rattle.bk_dump_laws.proofs.References.{IsGiven, Renames, mention_again, arguments, parameters_named, parameters_typed, parameters_counted}
+use Rattle.bk_dump_laws.proofs.Naming.{ok_is, bound, each_is, IsFunc}
+use Rattle.bk_dump_laws.proofs.References.{IsGiven, Renames, mention_again, arguments, parameters_named, parameters_typed}
 
 unless_ok : {A : Type 0} (o : Option (List ℕ)) (r : Result A (List ℕ)) (y : A) → unless o r ≡ Ok y → (o ≡ None) × (r ≡ Ok y)
 unless_ok None r y h = (refl, h)

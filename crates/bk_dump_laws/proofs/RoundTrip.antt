@@ -1,21 +1,19 @@
 -- What is printed of a package that a text reads as reads as the package again.
-use Rattle.std.proofs.Common.{◌≡◌, ℕ, ◌+◌, ◌<◌, ◌≤◌, List, [], ◌∷◌, ◌++◌, length, ap, ◌∙◌, sym, refl, subst, arith, Option, Some, None}
-use Rattle.std.specs.Prelude.{Result, Ok, Err, All}
-use Rattle.std.specs.List.{AllZip, AllByRecursion}
+use Rattle.std.proofs.Common.{◌≡◌, ℕ, List, [], ap, ◌∙◌, sym, refl, subst, arith}
+use Rattle.std.specs.Prelude.{Ok}
+use Rattle.std.specs.List.{AllZip}
 use Rattle.std.proofs.lemmas.List.Elements.{recursion_from_All}
-use Rattle.bk_func.specs.Records.{FuncRecord, VarRecord, PackageRecord}
-use Rattle.bk_dump.specs.Trees.{FuncTree}
+use Rattle.bk_func.specs.Records.{PackageRecord}
 use Rattle.bk_dump.specs.Drafts.{State, at_start}
 use Rattle.bk_dump.specs.Print.{text_of}
 use Rattle.bk_dump_laws.specs.Printed.{declarations_in, declarations_of, FitsText}
-use Rattle.bk_dump.specs.Resolved.{each, func_of, package_of}
+use Rattle.bk_dump.specs.Resolved.{func_of, package_of}
 use Rattle.bk_dump.specs.Texts.{lines, reading}
-use Rattle.bk_dump_laws.specs.Declarations.{Declaration, SpellsAll, lines_of_all, names_of_all, funcs_from, vars_from}
-use Rattle.bk_dump_laws.specs.Naming.{HasNames}
+use Rattle.bk_dump_laws.specs.Declarations.{Declaration, lines_of_all, names_of_all, funcs_from, vars_from}
 use Rattle.bk_dump.proofs.Packages.{package_is}
 use Rattle.bk_dump_laws.proofs.Expecting.{kept}
-use Rattle.bk_dump_laws.proofs.Running.{Declared, text_declares, run, reads_declared}
-use Rattle.bk_dump_laws.proofs.Naming.{IsMade, IsShort, package_made, each_is, named, declared_short}
+use Rattle.bk_dump_laws.proofs.Running.{Declared, text_declares, reads_declared}
+use Rattle.bk_dump_laws.proofs.Naming.{IsShort, package_made, each_is, named, declared_short}
 use Rattle.bk_dump_laws.proofs.Following.{run_follows, same_start}
 use Rattle.bk_dump_laws.proofs.Leaving.{Left, run_leaves}
 use Rattle.bk_dump_laws.proofs.Reprinting.{Reprinted, reprints, all_given}

@@ -1,20 +1,20 @@
 -- The reader over lines that are read as trees: the texts of lines do what their trees do.
-use Rattle.std.proofs.Common.{◌≡◌, ℕ, zero, suc, ◌+◌, ◌<◌, List, [], ◌∷◌, ◌++◌, length, map, ap, ◌∙◌, sym, refl, subst, Bool, true, false, cond, Option, Some, None}
-use Rattle.std.specs.Prelude.{Result, Ok, Err, not, All}
+use Rattle.std.proofs.Common.{◌≡◌, ℕ, ◌+◌, ◌<◌, List, [], ◌∷◌, ◌++◌, length, map, ap, ◌∙◌, sym, refl, subst, Bool, true, false, cond, Option, Some, None}
+use Rattle.std.specs.Prelude.{Result, Ok, Err, not}
 use Rattle.std.specs.List.{AllZip}
 use Rattle.bk_func.specs.Records.{PackageRecord}
 use Rattle.bk_dump.specs.declared.read.errors.Fault.{Fault}
 use Rattle.bk_dump.specs.declared.read.errors.Fault.TheVariants.{Syntax}
 use Rattle.bk_dump.specs.declared.read.draft.Stage.{Stage}
 use Rattle.bk_dump.specs.declared.read.draft.Stage.TheVariants.{Between, Function, Block}
-use Rattle.bk_dump.specs.Trees.{ValueTree, LabelTree, EndTree, VarTree, HeaderTree, OpenTree, BlockTree, FuncTree}
+use Rattle.bk_dump.specs.Trees.{ValueTree, EndTree, OpenTree, BlockTree, FuncTree}
 use Rattle.bk_dump.specs.Values.{value_at}
 use Rattle.bk_dump.specs.Blocks.{block_at}
 use Rattle.bk_dump.specs.Headers.{var_at}
 use Rattle.bk_dump.specs.Drafts.{State, add_value, end_block, read_inside, declare_var, declare_func, declare, closed, has_block, open_block, read_behind, at_stage, read_line, finished, at_start}
 use Rattle.bk_dump.specs.Resolved.{package_of}
-use Rattle.bk_dump.specs.Texts.{Refusal, at, ◌>>=◌, is_skipped, lines, read_next, read_lines, references, reading}
-use Rattle.bk_dump_laws.specs.Declarations.{Line, var_line, func_line, block_line, value_line, end_line, SpellsLine, Declaration, variable, function, lines_of_blocks, lines_of_all, IsWhole, names_of_all, funcs_from, vars_from, SpellsAll}
+use Rattle.bk_dump.specs.Texts.{at, ◌>>=◌, is_skipped, lines, read_next, read_lines, references, reading}
+use Rattle.bk_dump_laws.specs.Declarations.{Line, var_line, func_line, block_line, value_line, end_line, SpellsLine, Declaration, variable, function, lines_of_blocks, lines_of_all, names_of_all, funcs_from, vars_from, SpellsAll}
 use Rattle.bk_dump_laws.proofs.LaidVars.{var_lays, var_reads}
 use Rattle.bk_dump_laws.proofs.LaidHeaders.{func_reads}
 use Rattle.bk_dump_laws.proofs.LaidBlocks.{block_reads}
@@ -22,7 +22,7 @@ use Rattle.bk_dump_laws.proofs.LaidEnds.{end_reads}
 use Rattle.bk_dump_laws.proofs.LaidValues.{value_lays, value_reads}
 use Rattle.bk_dump.proofs.Stages.{read_at}
 use Rattle.bk_dump_laws.proofs.Forms.{var_no_func, value_no_end}
-use Rattle.bk_dump_laws.proofs.Declaring.{Rests, Leaves, text_leaves}
+use Rattle.bk_dump_laws.proofs.Declaring.{text_leaves}
 use Rattle.bk_dump_laws.proofs.Expecting.{Expects, Goes, kept, never, head_is, spells_as, as_var, as_func, not_block, as_block, as_next, some_block, as_value, as_end, line_goes}
 
 -- What a line does.

@@ -1,15 +1,14 @@
 -- What the lines of a text that is read have: numbers, names, types of words, and beside ops what the ops ask.
-use Rattle.std.proofs.Common.{◌≡◌, ◌≢◌, ℕ, ℤ, pos, negsuc, zero, suc, ◌+◌, ◌-◌, ◌*◌, ◌^◌, ◌<◌, ◌≤◌, min, List, [], ◌∷◌, ◌++◌, length, map, ap, ◌∙◌, sym, refl, subst, arith, Bool, true, false, cond, Option, Some, None, ◌⊎◌, inl, inr}
-use Rattle.std.specs.Prelude.{codes, ◌==◌, ◌||◌, not, nat_lt, filter, Result, Ok, Err}
+use Rattle.std.proofs.Common.{◌≡◌, ◌≢◌, ℕ, ℤ, pos, negsuc, suc, ◌-◌, ◌*◌, ◌^◌, ◌<◌, ◌≤◌, List, [], ◌∷◌, ◌++◌, length, map, ◌∙◌, sym, refl, subst, arith, Bool, true, false, cond, Option, Some, ◌⊎◌, inl, inr}
+use Rattle.std.specs.Prelude.{codes, ◌==◌, ◌||◌, not, filter}
 use Rattle.std.specs.List.{AllByRecursion, AllZip}
 use Rattle.std.specs.Option.{is_some}
-use Rattle.std.proofs.lemmas.Bool.Decides.{nat_tests}
 use Rattle.bk_text.specs.Tokens.{is_blank}
 use Rattle.bk_ops.specs.Table.{is_op}
 use Rattle.bk_ops.specs.declared.family.Family.{Family}
 use Rattle.bk_ops.specs.declared.family.Family.TheVariants as family
 use Rattle.bk_ops.specs.declared.types.Ty.{Ty}
-use Rattle.bk_ops.specs.declared.types.Ty.TheVariants.{Ptr, Mem, Void, Tuple}
+use Rattle.bk_ops.specs.declared.types.Ty.TheVariants.{Ptr, Tuple}
 use Rattle.bk_ops.proofs.Reading.{name_read}
 use Rattle.bk_func.specs.declared.parts.Kind.{Kind}
 use Rattle.bk_func.specs.declared.parts.Kind.TheVariants.{Plain, If, First, Ret, Exit}
@@ -18,13 +17,13 @@ use Rattle.bk_dump.specs.declared.read.beside.Braces.{Braces}
 use Rattle.bk_dump.specs.declared.read.beside.Braces.TheVariants as braces
 use Rattle.bk_dump.specs.declared.read.beside.Square.{Square}
 use Rattle.bk_dump.specs.declared.read.beside.Square.TheVariants as square
-use Rattle.bk_dump.specs.Front.{unblanked, after, mark_at, is_done}
+use Rattle.bk_dump.specs.Front.{unblanked, after, mark_at}
 use Rattle.bk_dump.specs.Words.{is_name_byte}
 use Rattle.bk_dump.specs.Parts.{Part, word, mark, listed, BeginsBlank, Lays, Spells, IsName, IsNumbered}
-use Rattle.bk_dump_laws.specs.Lines.{IsWordType, IsPlaceType, IsOneType, IsPlace, IsParameter, AreResults, IsKept, IsInt, IsTruth, IsSquare, IsBraces, IsControl, LeadsTo, AreSuccessors, IsFuncLine, IsBlockLine, IsValueLine, IsEndLine, IsVarLine}
+use Rattle.bk_dump_laws.specs.Lines.{IsWordType, IsPlaceType, IsOneType, IsPlace, IsParameter, IsKept, IsInt, IsTruth, IsSquare, IsBraces, IsControl, AreSuccessors, IsFuncLine, IsBlockLine, IsValueLine, IsEndLine}
 use Rattle.bk_dump.specs.Blocks.{mark_of, likely_of}
 use Rattle.bk_dump.specs.Values.{braces_of, square_of, constants_of, is_written}
-use Rattle.bk_dump.specs.Trees.{MentionTree, ValueTree, LabelTree, EndTree, VarTree, ParameterTree, HeaderTree, no_mention, of_type, of_name}
+use Rattle.bk_dump.specs.Trees.{MentionTree, ValueTree, LabelTree, EndTree, ParameterTree, HeaderTree, no_mention, of_type, of_name}
 use Rattle.bk_dump.specs.Texts.{is_skipped}
 use Rattle.bk_dump_laws.specs.Declarations.{Line, var_line, func_line, block_line, value_line, end_line, SpellsLine}
 use Rattle.bk_dump_laws.specs.Printed.{IsShort, AreShort, IsKeptAs, FitsSquare, FitsKind}

@@ -1,14 +1,13 @@
 -- Types that are spelled by their names are read.
-use Rattle.std.proofs.Common.{◌≡◌, ℕ, ◌+◌, ◌<◌, List, [], ◌∷◌, ◌++◌, length, ap, ◌∙◌, sym, refl, arith, append_assoc, Bool, true, false, cond, Option, Some, None}
+use Rattle.std.proofs.Common.{◌≡◌, ℕ, List, [], ◌∷◌, ◌++◌, ap, ◌∙◌, refl, arith, append_assoc, Bool, true, false, cond, Some, None}
 use Rattle.std.specs.Prelude.{codes}
-use Rattle.std.specs.List.{prefix_len, AllByRecursion}
+use Rattle.std.specs.List.{AllByRecursion}
 use Rattle.std.specs.Option.{option_map}
 use Rattle.std.specs.Str.{bytes_eq}
-use Rattle.bk_text.specs.Tokens.{is_blank}
 use Rattle.bk_ops.specs.declared.types.Ty.{Ty}
 use Rattle.bk_ops.specs.declared.types.Ty.TheVariants.{Bool as Truth, Int8, Uint8, Int16, Uint16, Int32, Uint32, Int64, Uint64, Int, Uint, Uintptr, Ptr, Mem, Void, Tuple}
 use Rattle.bk_dump.specs.Front.{◌>>=◌, or_else, unblanked, after, mark_at, every, onto}
-use Rattle.bk_dump.specs.Words.{is_name_byte, is_plain_byte, plain_at}
+use Rattle.bk_dump.specs.Words.{is_name_byte, is_plain_byte}
 use Rattle.bk_dump.specs.Types.{word_types, is_pointer, word_type, named_type, with_type, place_type_at, one_type_at, next_type_at, memory_at, is_word_type, list_at, value_type_at}
 use Rattle.bk_dump.specs.Print.{type_name, members}
 use Rattle.bk_dump.specs.Parts.{IsNameOf}

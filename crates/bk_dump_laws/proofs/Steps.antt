@@ -1,5 +1,5 @@
 -- Steps that go through.
-use Rattle.std.proofs.Common.{◌≡◌, ℕ, List, [], ◌∷◌, length, refl, Bool, true, false, cond, Option, Some, None}
+use Rattle.std.proofs.Common.{◌≡◌, [], length, refl, Bool, true, false, cond, Option, Some, None}
 use Rattle.std.specs.Prelude.{Result, Ok, Err}
 use Rattle.bk_func.specs.Records.{VarRecord}
 use Rattle.bk_dump.specs.declared.read.errors.Fault.{Fault}

@@ -1,22 +1,20 @@
 -- The lines that open and end blocks, as they are written, spell what the blocks say.
-use Rattle.std.proofs.Common.{◌≡◌, ◌≢◌, ℕ, suc, ◌+◌, ◌<◌, ◌≤◌, List, [], ◌∷◌, ◌++◌, length, ap, ◌∙◌, sym, refl, subst, arith, append_assoc, append-nil, Bool, true, false, cond, Option, Some, None, ◌⊎◌, inl, inr}
-use Rattle.std.specs.Prelude.{codes, ◌==◌, not, fold}
+use Rattle.std.proofs.Common.{◌≡◌, ◌≢◌, ℕ, ◌<◌, List, [], ◌∷◌, ◌++◌, length, sym, refl, subst, arith, append_assoc, true, cond, Option, Some, None, ◌⊎◌, inl, inr}
+use Rattle.std.specs.Prelude.{codes, ◌==◌, not}
 use Rattle.std.specs.Fmt.{decimal}
-use Rattle.std.specs.List.{AllByRecursion, AllZip, list_all}
-use Rattle.std.specs.Str.{bytes_eq}
+use Rattle.std.specs.List.{AllByRecursion, list_all}
 use Rattle.std.proofs.lemmas.Bool.Decides.{nat_tests}
 use Rattle.bk_func.specs.declared.parts.Kind.{Kind}
 use Rattle.bk_func.specs.declared.parts.Kind.TheVariants.{Plain, If, First, Ret, Exit}
 use Rattle.bk_func.specs.declared.parts.Likely.{Likely}
 use Rattle.bk_func.specs.declared.parts.Likely.TheVariants as likely
 use Rattle.bk_func.specs.Records.{BlockRecord}
-use Rattle.bk_dump.specs.Parts.{Part, word, mark, Spells, IsGroup, IsArrow, IsBackArrow, IsNumbered}
+use Rattle.bk_dump.specs.Parts.{Part, word, mark, Spells, IsBackArrow}
 use Rattle.bk_dump_laws.specs.Lines.{AreBlocks, AreGroups, IsBlockLine, IsControl, LeadsTo, AreSuccessors, IsEndLine}
-use Rattle.bk_dump.specs.Blocks.{kind_word, marked, mark_of, likely_of}
+use Rattle.bk_dump.specs.Blocks.{kind_word, mark_of, likely_of}
 use Rattle.bk_dump.specs.Print.{numbers, edges, label, kind_name, control_part, ending}
 use Rattle.bk_dump.specs.Print.{mark as mark_text, mark_part}
-use Rattle.bk_dump_laws.specs.Printed.{IsShort, AreShort, label_tree, end_tree, FitsKind, FitsBlock}
-use Rattle.bk_dump.specs.Trees.{LabelTree, EndTree}
+use Rattle.bk_dump_laws.specs.Printed.{IsShort, AreShort, label_tree, end_tree, FitsKind}
 use Rattle.bk_dump.proofs.Runs.{both_hold}
 use Rattle.bk_dump_laws.proofs.Writing.{more_than_none, Solid, solid_text, Writes, Begins, writes_mark, writes_word, writes_last, spaced, writes_append, is_numbered, numbered_solid, number_parts, numbers_are, writes_numbers}
 

@@ -1,17 +1,16 @@
 -- The lines that declare functions, as they are written, spell what the functions say.
-use Rattle.std.proofs.Common.{◌≡◌, ℕ, zero, suc, ◌+◌, ◌^◌, ◌<◌, ◌≤◌, List, [], ◌∷◌, ◌++◌, length, ap, ◌∙◌, sym, refl, subst, arith, append_assoc, append-nil, Bool, true, false, cond, ◌⊎◌, inl, inr}
+use Rattle.std.proofs.Common.{◌≡◌, ℕ, suc, ◌+◌, ◌^◌, ◌<◌, List, [], ◌∷◌, ◌++◌, length, ap, ◌∙◌, sym, refl, subst, arith, append_assoc, false, cond, inl, inr}
 use Rattle.std.specs.Prelude.{codes, ◌==◌}
 use Rattle.std.specs.List.{AllByRecursion, AllZip}
 use Rattle.std.proofs.lemmas.Bool.Decides.{nat_tests}
 use Rattle.bk_ops.specs.declared.types.Ty.{Ty}
 use Rattle.bk_func.specs.Records.{SigRecord, FuncRecord, PackageRecord}
 use Rattle.bk_dump.specs.Parts.{Part, word, mark, behind_commas, listed, Spells, IsName}
-use Rattle.bk_dump_laws.specs.Lines.{IsWordType, IsPlace, IsParameter, AreResults, IsFuncLine}
+use Rattle.bk_dump_laws.specs.Lines.{IsWordType, IsParameter, AreResults, IsFuncLine}
 use Rattle.bk_dump.specs.Print.{type_name, symbol, argument_name, separator, parameter, parameters, results, header}
 use Rattle.bk_dump.specs.Print.{listed as listed_text}
 use Rattle.bk_dump_laws.specs.Printed.{parameters_of, header_tree, FitsFunc}
-use Rattle.bk_dump.specs.Trees.{ParameterTree, HeaderTree}
-use Rattle.bk_dump_laws.proofs.Writing.{more_than_none, Solid, solid_text, name_solid, plain_solid, Writes, Begins, writes_mark, writes_word, writes_last, spaced, writes_append}
+use Rattle.bk_dump_laws.proofs.Writing.{more_than_none, Solid, solid_text, name_solid, plain_solid, Writes, Begins, writes_mark, writes_word, spaced, writes_append}
 use Rattle.bk_dump_laws.proofs.WrittenValues.{argument_is_named, type_solid, place_type, each_type, are_places}
 
 commas_begin : (each : List (List Part)) (text : List ℕ) → Begins (behind_commas each) text

@@ -1,5 +1,5 @@
 -- The text of a package spells what the package declares.
-use Rattle.std.proofs.Common.{◌≡◌, ℕ, zero, suc, ◌+◌, ◌-◌, ◌<◌, ◌≤◌, List, [], ◌∷◌, ◌++◌, length, map, take, drop, ap, ◌∙◌, sym, refl, subst, arith, append_assoc, append-nil, get_or, Bool, true, false, cond, Option, Some, None}
+use Rattle.std.proofs.Common.{◌≡◌, ℕ, zero, suc, ◌-◌, ◌<◌, ◌≤◌, List, [], ◌∷◌, ◌++◌, length, map, take, drop, ap, ◌∙◌, sym, refl, subst, arith, append_assoc, append-nil, get_or, Bool, true, false, cond, Option, Some, None}
 use Rattle.std.specs.Prelude.{codes, ◌==◌, ◌&&◌, ◌||◌, not, nat_lt, All, filter, slice_index}
 use Rattle.std.specs.List.{slice_split, AllByRecursion, AllZip}
 use Rattle.std.specs.Option.{is_some}

@@ -1,10 +1,10 @@
 -- The lines of values, as they are written, spell the values.
-use Rattle.std.proofs.Common.{◌≡◌, ◌≢◌, ℕ, ℤ, pos, negsuc, zero, suc, ◌+◌, ◌-◌, ◌*◌, ◌^◌, ◌<◌, ◌≤◌, List, [], ◌∷◌, ◌++◌, length, ap, ◌∙◌, sym, refl, subst, arith, append_assoc, append-nil, Bool, true, false, cond, ◌⊎◌, inl, inr}
-use Rattle.std.specs.Prelude.{codes, ◌==◌, ◌&&◌, nat_lt}
+use Rattle.std.proofs.Common.{◌≡◌, ◌≢◌, ℕ, ℤ, pos, negsuc, zero, suc, ◌+◌, ◌-◌, ◌^◌, ◌<◌, ◌≤◌, List, [], ◌∷◌, ◌++◌, ap, ◌∙◌, sym, refl, subst, arith, append_assoc, append-nil, Bool, true, false, cond, inl, inr}
+use Rattle.std.specs.Prelude.{codes, nat_lt}
 use Rattle.std.specs.Fmt.{decimal, signed_decimal}
 use Rattle.std.specs.List.{AllByRecursion, AllZip}
 use Rattle.std.specs.Str.Parse.{AllDigits}
-use Rattle.std.specs.Str.{is_utf8, IsAscii}
+use Rattle.std.specs.Str.{IsAscii}
 use Rattle.std.proofs.lemmas.Bool.Decides.{nat_tests}
 use Rattle.std.proofs.lemmas.Fmt.{decimal_is_IsNumeral}
 use Rattle.std.proofs.lemmas.Str.{IsUtf8-from_ascii, is_utf8-from_IsUtf8}
@@ -24,8 +24,8 @@ use Rattle.bk_dump.specs.declared.read.beside.Braces.TheVariants as braces
 use Rattle.bk_dump.specs.declared.read.beside.Square.{Square}
 use Rattle.bk_dump.specs.declared.read.beside.Square.TheVariants as square
 use Rattle.bk_dump.specs.Words.{is_name_byte, is_plain_byte}
-use Rattle.bk_dump.specs.Parts.{Part, word, mark, behind_commas, listed, Spells, IsNameOf, IsName, IsPlainName}
-use Rattle.bk_dump_laws.specs.Lines.{IsWordType, IsPlaceType, IsOneType, IsPlace, IsType, IsKept, IsInt, IsSquare, bracketed, IsBraces, braced, IsValueLine}
+use Rattle.bk_dump.specs.Parts.{Part, word, mark, behind_commas, listed, Spells, IsName, IsPlainName}
+use Rattle.bk_dump_laws.specs.Lines.{IsWordType, IsPlaceType, IsOneType, IsPlace, IsType, IsInt, IsSquare, bracketed, IsBraces, braced, IsValueLine}
 use Rattle.bk_dump.specs.Values.{braces_of, square_of, constants_of, is_written}
 use Rattle.bk_dump.specs.Print.{type_name, symbol, argument_name, members, tuple_types, value_type, aux_part, int_part, value_front, value_back, value_line, numbers}
 use Rattle.bk_dump_laws.specs.Printed.{mention_of, value_tree, HasTypes, FitsBraces, IsKeptAs, FitsSquare, FitsValue}
@@ -33,7 +33,7 @@ use Rattle.bk_dump.proofs.Runs.{both_hold}
 use Rattle.bk_dump.proofs.Numbers.{digit_is}
 use Rattle.bk_dump_laws.proofs.SpelledTypes.{is_single, type_is_named}
 use Rattle.bk_dump_laws.proofs.OpRows.{is_int, has_int, int_is_written, name_is_worded}
-use Rattle.bk_dump_laws.proofs.Writing.{Solid, solid_append, name_solid, plain_solid, word_solid, solid_decimal, Writes, Begins, writes_mark, writes_word, writes_last, spaced, writes_append, is_decimal, is_numbered, numbered_solid, number_parts, numbers_are, numbers_begin, writes_numbers}
+use Rattle.bk_dump_laws.proofs.Writing.{Solid, name_solid, plain_solid, word_solid, solid_decimal, Writes, Begins, writes_mark, writes_word, writes_last, spaced, writes_append, is_decimal, is_numbered, numbered_solid, number_parts, numbers_are, numbers_begin, writes_numbers}
 
 -- Names of arguments.
 

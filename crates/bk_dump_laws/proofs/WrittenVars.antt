@@ -1,6 +1,6 @@
 -- The lines of variables, as they are written, spell what the variables say, and their digits give the bytes back.
-use Rattle.std.proofs.Common.{◌≡◌, ℕ, zero, suc, ◌+◌, ◌*◌, ◌/◌, ◌%◌, ◌^◌, ◌<◌, ◌≤◌, min, List, [], ◌∷◌, ◌++◌, length, take, ap, ◌∙◌, sym, refl, subst, arith, get_or, append_assoc, Bool, true, false, cond, ◌⊎◌, inl, inr, ⊎_elim}
-use Rattle.std.specs.Prelude.{codes, ◌==◌, nat_lt, slice_index}
+use Rattle.std.proofs.Common.{◌≡◌, ℕ, zero, suc, ◌+◌, ◌*◌, ◌/◌, ◌%◌, ◌^◌, ◌<◌, ◌≤◌, List, [], ◌∷◌, ◌++◌, length, take, ap, ◌∙◌, sym, refl, subst, arith, get_or, append_assoc, Bool, true, false, cond, ◌⊎◌, inl, inr, ⊎_elim}
+use Rattle.std.specs.Prelude.{codes, ◌==◌, nat_lt}
 use Rattle.std.specs.Char.{is_ascii_hexdigit}
 use Rattle.std.specs.Fmt.{decimal, digits, digit_glyph}
 use Rattle.std.specs.List.{AllByRecursion}
@@ -14,7 +14,6 @@ use Rattle.bk_dump_laws.specs.Lines.{IsHex, IsSize, IsVarLine}
 use Rattle.bk_dump.specs.Drafts.{hex_value, pairs}
 use Rattle.bk_dump.specs.Print.{symbol, hex, hex_to, bytes_part, variable_line}
 use Rattle.bk_dump_laws.specs.Printed.{var_tree, FitsVar}
-use Rattle.bk_dump.specs.Trees.{VarTree}
 use Rattle.bk_dump_laws.proofs.Writing.{Solid, solid_if, solid_text, name_solid, solid_decimal, Writes, Begins, writes_mark, writes_word, writes_last, spaced, is_decimal}
 
 -- A byte in two digits.

@@ -1,5 +1,5 @@
 -- The declarations that the lines of a text spell, and what they declare.
-use Rattle.std.specs.Prelude.{◌≡◌, ◌<◌, ℕ, suc, ◌+◌, Bool, true, false, not, List, [], ◌∷◌, ◌++◌, map, filter, length, All}
+use Rattle.std.specs.Prelude.{◌≡◌, ◌<◌, ℕ, suc, false, not, List, [], ◌∷◌, ◌++◌, map, filter, length, All}
 use Rattle.std.specs.List.{AllZip}
 use Rattle.bk_func.specs.Records.{VarRecord}
 use Rattle.bk_dump.specs.Trees.{ValueTree, LabelTree, EndTree, VarTree, HeaderTree, BlockTree, FuncTree}

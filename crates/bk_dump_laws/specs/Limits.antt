@@ -1,5 +1,5 @@
 -- Declarations that keep the limits of a text, with names and numbers of their own.
-use Rattle.std.specs.Prelude.{◌≡◌, ◌≢◌, ◌≤◌, ◌+◌, ℕ, false, List, [], ◌∷◌, length, map, All, IfSome, Ok}
+use Rattle.std.specs.Prelude.{◌≡◌, ◌≢◌, ◌≤◌, ◌+◌, ℕ, false, List, [], ◌∷◌, length, All, IfSome, Ok}
 use Rattle.std.specs.List.{AllPairs}
 use Rattle.bk_func.specs.Records.{PackageRecord}
 use Rattle.bk_func.specs.Limits.{most_functions, most_variables, most_values, most_blocks, most_in_signature, most_window}

@@ -1,11 +1,9 @@
 -- What each line of a package's text spells, by its parts.
-use Rattle.std.specs.Prelude.{◌≡◌, ◌≢◌, ◌<◌, ◌≤◌, ◌+◌, ◌-◌, ◌*◌, ◌^◌, ◌==◌, nat_lt, nat_le, ◌&&◌, ℕ, ℤ, pos, negsuc, suc, true, min, List, [], ◌∷◌, ◌++◌, ◌⊎◌, length, map, codes, Option, Some, None}
-use Rattle.std.specs.Fmt.{signed_decimal}
+use Rattle.std.specs.Prelude.{◌≡◌, ◌≢◌, ◌<◌, ◌≤◌, ◌-◌, ◌*◌, ◌^◌, ℕ, ℤ, pos, negsuc, suc, true, min, List, [], ◌∷◌, ◌++◌, ◌⊎◌, length, codes, Option, Some, None}
 use Rattle.std.specs.List.{AllByRecursion, AllZip}
 use Rattle.std.specs.Char.{is_ascii_hexdigit}
 use Rattle.bk_ops.specs.declared.types.Ty.{Ty}
 use Rattle.bk_ops.specs.declared.types.Ty.TheVariants.{Ptr, Mem, Void, Tuple}
-use Rattle.bk_ops.specs.declared.table.Op.{Op}
 use Rattle.bk_ops.specs.Reading.{read as op_named}
 use Rattle.bk_func.specs.declared.parts.Kind.{Kind}
 use Rattle.bk_func.specs.declared.parts.Kind.TheVariants.{Plain, If, First, Ret, Exit}
@@ -14,7 +12,7 @@ use Rattle.bk_dump.specs.declared.read.beside.Braces.TheVariants as braces
 use Rattle.bk_dump.specs.declared.read.beside.Square.{Square}
 use Rattle.bk_dump.specs.declared.read.beside.Square.TheVariants as square
 use Rattle.bk_dump.specs.Words.{is_word_byte}
-use Rattle.bk_dump.specs.Parts.{Part, word, mark, behind_commas, listed, IsName, IsPlainName, IsDecimal, IsNumbered, IsGroup, IsArrow, IsBackArrow}
+use Rattle.bk_dump.specs.Parts.{Part, word, mark, listed, IsName, IsPlainName, IsDecimal, IsNumbered, IsGroup, IsArrow, IsBackArrow}
 use Rattle.bk_dump.specs.Trees.{MentionTree, ValueTree, LabelTree, EndTree, VarTree, ParameterTree, HeaderTree, no_mention, of_type, of_name}
 use Rattle.bk_dump.specs.Print.{type_name}
 use Rattle.bk_dump.specs.Blocks.{kind_word, mark_of, likely_of}

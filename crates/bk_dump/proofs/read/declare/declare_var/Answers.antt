@@ -1,4 +1,4 @@
-use Rattle.std.proofs.Common.{◌≡◌, ◌≤◌, ◌+◌, ◌/◌, ◌*◌, ap, ◌∙◌, sym, map, List, ℕ, Ok, None, arith, length, ◌++◌, ◌∷◌, []}
+use Rattle.std.proofs.Common.{◌≡◌, ◌+◌, ◌/◌, ◌*◌, ap, ◌∙◌, sym, map, List, ℕ, None, arith, ◌++◌, ◌∷◌, []}
 use Rattle.bk_dump.specs.Trees.{VarTree}
 use Rattle.bk_dump.specs.Drafts.{var_fault}
 use Rattle.bk_dump.specs.Views.{state}

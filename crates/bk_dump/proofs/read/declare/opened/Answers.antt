@@ -1,6 +1,6 @@
-use Rattle.std.proofs.Common.{◌≡◌, [], map, is_some, ap, ◌∙◌, sym, true, false}
+use Rattle.std.proofs.Common.{[], map, is_some, ap, ◌∙◌, sym}
 use Rattle.bk_dump.specs.Trees.{HeaderTree}
-use Rattle.bk_dump.specs.Drafts.{are_fresh, parameter_names}
+use Rattle.bk_dump.specs.Drafts.{are_fresh}
 use Rattle.bk_dump.proofs.Stages.{opened_none, opened_some}
 use Rattle.bk_dump.proofs.read.declare.opened.Goals as goal
 

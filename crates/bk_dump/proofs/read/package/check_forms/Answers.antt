@@ -1,7 +1,7 @@
-use Rattle.std.proofs.Common.{◌≡◌, ◌+◌, ◌<◌, arith, length, take, ap, ◌∙◌, subst, get_or}
+use Rattle.std.proofs.Common.{◌≡◌, ◌<◌, arith, length, ap, ◌∙◌, subst, get_or}
 use Rattle.std.specs.Prelude.{All}
 use Rattle.std.proofs.lemmas.List.{take_all}
-use Rattle.bk_func.specs.Records.{FuncRecord, PackageRecord}
+use Rattle.bk_func.specs.Records.{PackageRecord}
 use Rattle.bk_dump.specs.Views.{IsFormed}
 use Rattle.bk_dump.proofs.Judged.{formed_more, blamed}
 use Rattle.bk_dump.proofs.read.package.check_forms.Goals as goal

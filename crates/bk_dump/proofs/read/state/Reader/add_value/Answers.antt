@@ -1,5 +1,5 @@
 use Rattle.std.proofs.Common.{◌≡◌, ap, ◌∙◌, sym, map, Ok, None}
-use Rattle.bk_dump.specs.Trees.{ValueTree, FuncTree, OpenTree}
+use Rattle.bk_dump.specs.Trees.{ValueTree, FuncTree}
 use Rattle.bk_dump.specs.Drafts.{value_fault}
 use Rattle.bk_dump.specs.Views.{state}
 use Rattle.bk_dump.proofs.Faults.{new_value}
