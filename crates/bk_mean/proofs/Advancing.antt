@@ -1,5 +1,5 @@
 -- A machine that advances comes to what its run means.
-use Rattle.std.proofs.Common.{◌≡◌, ℕ, zero, suc, ◌+◌, ◌-◌, ◌<◌, ◌≤◌, ◌≢◌, refl, ap, sym, ◌∙◌, subst, arith, ◌⊎◌, inl, inr, List, [], ◌∷◌, ◌++◌, length, take, drop, map, append_assoc, length-append, Option, Some, None, Bool, true, false}
+use Rattle.std.proofs.Common.{◌≡◌, ℕ, ◌+◌, ◌-◌, ◌<◌, ◌≢◌, refl, ap, sym, ◌∙◌, subst, arith, ◌⊎◌, inl, inr, List, [], ◌∷◌, ◌++◌, length, take, append_assoc, length-append, Option, Some, None, Bool, true, false}
 use Rattle.std.specs.Prelude.{slice_get, slice_index, is_some, Vec, if◌then◌else◌}
 use Rattle.std.specs.declared.alloc.Global.{Global}
 use Rattle.std.proofs.Math.Path.{fun_ext}
@@ -7,39 +7,35 @@ use Rattle.std.proofs.lemmas.Bool.{cases_eq}
 use Rattle.bk_ops.specs.declared.types.Target.{Target}
 use Rattle.bk_ops.specs.declared.family.Family.{Family}
 use Rattle.bk_ops.specs.declared.family.Family.TheVariants as op
-use Rattle.bk_func.specs.Records.{SigRecord, ValueRecord, BlockRecord, FuncRecord, PackageRecord}
-use Rattle.bk_func.specs.Edits.{block_of}
-use Rattle.bk_func.specs.Numbers.{Program, numbers, room, values_of, is_mem}
+use Rattle.bk_func.specs.Records.{ValueRecord, FuncRecord, PackageRecord}
+use Rattle.bk_func.specs.Numbers.{Program, is_mem}
 use Rattle.bk_func.specs.Effects.{Effect, call, call_words, pass, effect_of, has_effect}
-use Rattle.bk_func.specs.Symbols.{sig_of, symbol_of}
-use Rattle.bk_func.specs.Meaning.{Outcome, World, Run, gives, stops, trapped, wild, Activation, first_state, entered, run, put, with_given, in_state}
+use Rattle.bk_func.specs.Meaning.{World, Run, gives, stops, trapped, wild, Activation, first_state, with_given, in_state}
 use Rattle.bk_func.specs.declared.form.FormKind.TheVariants.{Missing}
-use Rattle.bk_func.specs.Form.Text.{HasBlock, HasValue}
 use Rattle.bk_func.proofs.Faults.{In}
 use Rattle.bk_func.proofs.Flat.{one}
 use Rattle.bk_mean.specs.Numbering.{place_in}
-use Rattle.bk_mean.specs.Ready.{IsReadyValue, kept_by}
+use Rattle.bk_mean.specs.Ready.{kept_by}
 use Rattle.bk_mean.specs.Seen.{word_in}
-use Rattle.bk_mean.specs.Turned.{Stage}
-use Rattle.bk_mean.specs.Running.{Held, Store, stored, keep_all, Ended, top, Moved, Advanced, none, on, back}
+use Rattle.bk_mean.specs.Running.{Held, stored, keep_all, Ended, top, Moved, Advanced, none, on, back}
 use Rattle.bk_mean.specs.declared.machine.Activation.{Activation as Active}
 use Rattle.bk_mean.specs.declared.ready.Ready.{Ready}
 use Rattle.bk_mean.specs.declared.ready.Kept.{Kept}
 use Rattle.bk_mean.specs.declared.step.CallWords.{CallWords}
 use Rattle.bk_mean.specs.declared.turn.Next.{Next}
 use Rattle.bk_mean.specs.declared.turn.Next.TheVariants as next
-use Rattle.bk_mean.proofs.Named.{to_contains, got_in, found_block, found_value}
+use Rattle.bk_mean.proofs.Named.{found_value}
 use Rattle.bk_mean.proofs.Formed.{Sound, sound}
 use Rattle.bk_mean.proofs.Arranged.{due_level, due_class, values_at}
 use Rattle.bk_mean.proofs.Along.{IsShown}
 use Rattle.bk_mean.proofs.Knowing.{IsResultOf}
 use Rattle.bk_mean.proofs.Filling.{number_given}
-use Rattle.bk_mean.proofs.Tabled.{table, place_apart, place_below, ready_at, ready_there}
+use Rattle.bk_mean.proofs.Tabled.{table, place_apart, place_below}
 use Rattle.bk_mean.proofs.Keeping.{kept_given, keep_length, keep_other, keep_own, keep_within}
-use Rattle.bk_mean.proofs.Doing.{Order, IsAt, put_there, returns_so}
-use Rattle.bk_mean.proofs.Resuming.{Frame, gave, inside, resume, return_run, run_enters, one_acts}
-use Rattle.bk_mean.proofs.Stacking.{KeepsResults, Learnt, Sits, Suspended, WordsTaken, IsWaiting, Stacked, bottom, more, Within, Heads, Calling, ground}
-use Rattle.bk_mean.proofs.Moving.{drop_all, take_all, Returned, Yields, moved_so}
+use Rattle.bk_mean.proofs.Doing.{IsAt, put_there, returns_so}
+use Rattle.bk_mean.proofs.Resuming.{Frame, gave, resume, return_run, one_acts}
+use Rattle.bk_mean.proofs.Stacking.{KeepsResults, Sits, WordsTaken, IsWaiting, Stacked, bottom, more, Within, Heads, Calling, ground}
+use Rattle.bk_mean.proofs.Moving.{take_all, Returned, Yields, moved_so}
 
 -- lists with one more at their end
 

@@ -1,22 +1,21 @@
 -- One value in its turn does what it means.
-use Rattle.std.proofs.Common.{◌≡◌, ℕ, ◌+◌, ◌<◌, refl, ap, sym, ◌∙◌, subst, arith, ◌⊎◌, inl, inr, List, [], ◌∷◌, ◌++◌, length, map, Option, Some, None, Bool, true, false, eq-eqb, ◌==◌}
+use Rattle.std.proofs.Common.{◌≡◌, ℕ, ◌+◌, refl, ap, sym, ◌∙◌, subst, arith, ◌⊎◌, inl, inr, List, [], ◌∷◌, ◌++◌, length, map, Option, Some, None, Bool, true, false, eq-eqb}
 use Rattle.std.proofs.Math.ListN.{length-set}
-use Rattle.std.specs.Prelude.{slice_index, slice_get, slice_set, is_some, if◌then◌else◌}
+use Rattle.std.specs.Prelude.{slice_index, slice_set, is_some, if◌then◌else◌}
 use Rattle.bk_ops.specs.declared.types.Target.{Target}
 use Rattle.bk_ops.specs.declared.family.Family.{Family}
 use Rattle.bk_ops.specs.declared.family.Family.TheVariants as op
 use Rattle.bk_ops.specs.declared.family.ArmOp.TheVariants as arm
 use Rattle.bk_ops.specs.declared.family.RvOp.TheVariants as rv
 use Rattle.bk_func.specs.Records.{ValueRecord, BlockRecord, FuncRecord}
-use Rattle.bk_func.specs.Numbers.{Program, Env, Origin, phi, argument, argument_word, result, address, loaded, checked, same, computed, origin_of, numbers, number_of, number_by, room, state_of}
+use Rattle.bk_func.specs.Numbers.{Program, Env, Origin, phi, argument, argument_word, result, address, loaded, checked, same, computed, origin_of, numbers, number_of, number_by, room}
 use Rattle.bk_func.specs.Effects.{Effect, store, zeros, move, panic_bounds, call, call_words, out_word, ret_word, ret_words, trap, pass, effect_of, has_effect, chain_from, is_phi, is_check, is_load}
-use Rattle.bk_func.specs.Meaning.{Outcome, trapped, wild, World, Run, gives, stops, bind, Activation, Calls, put, fault_by, fault_at, halted, done_by, done_at, in_state, first_state}
+use Rattle.bk_func.specs.Meaning.{trapped, wild, World, Run, gives, stops, bind, Activation, Calls, put, fault_by, fault_at, halted, done_by, done_at, in_state, first_state}
 use Rattle.bk_func.specs.declared.form.FormKind.TheVariants.{Missing}
 use Rattle.bk_func.specs.Form.{IsFormed}
-use Rattle.bk_func.specs.Form.Text.{HasBlock, HasValue, IsPhi}
+use Rattle.bk_func.specs.Form.Text.{HasValue, IsPhi}
 use Rattle.bk_func.specs.Form.Walks.{IsReached}
 use Rattle.bk_func.specs.Form.Signatures.{Setting}
-use Rattle.bk_func.proofs.Faults.{In}
 use Rattle.bk_func.proofs.Flat.{Laid, one}
 use Rattle.bk_func.proofs.Unique.{solved}
 use Rattle.bk_mean.specs.Numbering.{place_in}
@@ -26,7 +25,6 @@ use Rattle.bk_mean.specs.Step.{Reads, Stands, IsSettled, IsActed, IsCalling, IsN
 use Rattle.bk_mean.specs.Turned.{Stage, Ground, IsTurn}
 use Rattle.bk_mean.specs.declared.step.After.{After}
 use Rattle.bk_mean.specs.declared.step.After.TheVariants.{On, Trap, Wild, Call}
-use Rattle.bk_mean.specs.declared.words.Words.{Words}
 use Rattle.bk_mean.specs.declared.step.CallWords.{CallWords}
 use Rattle.bk_mean.specs.declared.ready.ReadyValue.{ReadyValue}
 use Rattle.bk_mean.proofs.Named.{found_value, to_in}

@@ -1,5 +1,5 @@
 -- A run comes to what the function means.
-use Rattle.std.proofs.Common.{◌≡◌, ℕ, zero, suc, ◌+◌, ◌-◌, ◌<◌, refl, ap, sym, ◌∙◌, subst, arith, ◌⊎◌, inl, inr, List, [], ◌∷◌, ◌++◌, length, Option, Some, None, Bool, true, false}
+use Rattle.std.proofs.Common.{◌≡◌, ℕ, suc, ◌+◌, ◌-◌, ◌<◌, refl, ap, sym, ◌∙◌, subst, arith, inl, inr, List, [], length, Option, Some, None, Bool, true, false}
 use Rattle.std.specs.Prelude.{slice_get, slice_index, nat_lt, if◌then◌else◌, MatchOption}
 use Rattle.std.proofs.lemmas.Bool.{lt-ltb}
 use Rattle.bk_ops.specs.declared.types.Target.{Target}
@@ -8,9 +8,9 @@ use Rattle.bk_func.specs.Numbers.{Program}
 use Rattle.bk_func.specs.Words.{fitted}
 use Rattle.bk_func.specs.Symbols.{symbol_of}
 use Rattle.bk_ops.specs.declared.types.Ty.{Ty}
-use Rattle.bk_func.specs.Meaning.{Outcome, trapped, going, returned, wild, World, Run, gives, stops, begun, run, meaning}
+use Rattle.bk_func.specs.Meaning.{Outcome, trapped, going, returned, Run, stops, begun, run, meaning}
 use Rattle.bk_mean.specs.Eval.{EntersNone, end_of_none, fitted_outcome, AreFormed, AreInForm}
-use Rattle.bk_mean.specs.Running.{Held, top, stack_left, Advanced, AreReady, NoneReady, Starts, Calls, Opens, Takes, TakesWords, Begun, RunsTo, spent, enters, calls, fails, traps, wilds, returns, RunsAll}
+use Rattle.bk_mean.specs.Running.{Held, top, stack_left, AreReady, NoneReady, Starts, Calls, Opens, Takes, Begun, RunsTo, spent, enters, calls, fails, traps, wilds, returns, RunsAll}
 use Rattle.bk_mean.specs.declared.machine.Activation.{Activation as Active}
 use Rattle.bk_mean.specs.declared.ready.Ready.{Ready}
 use Rattle.bk_mean.specs.declared.symbols.Callee.{Callee}

@@ -1,18 +1,15 @@
 -- A machine at the entry of a block, and at a call, goes on.
-use Rattle.std.proofs.Common.{◌≡◌, ℕ, zero, suc, ◌+◌, ◌-◌, ◌<◌, ◌≤◌, refl, ap, sym, ◌∙◌, subst, arith, ◌⊎◌, inl, inr, List, [], ◌∷◌, ◌++◌, length, drop, Option, Some, None, Bool, true, false}
-use Rattle.std.specs.Prelude.{slice_get, slice_index, nat_lt, if◌then◌else◌}
+use Rattle.std.proofs.Common.{◌≡◌, ℕ, zero, suc, ◌-◌, ◌≤◌, refl, ap, sym, ◌∙◌, subst, arith, ◌⊎◌, inl, inr, List, [], ◌∷◌, ◌++◌, length, drop, Option, Some, Bool, true, false}
+use Rattle.std.specs.Prelude.{slice_get, slice_index, nat_lt}
 use Rattle.bk_ops.specs.declared.types.Ty.{Ty}
-use Rattle.bk_func.specs.Records.{SigRecord, ValueRecord, BlockRecord, FuncRecord, PackageRecord}
+use Rattle.bk_func.specs.Records.{SigRecord, ValueRecord, BlockRecord, FuncRecord}
 use Rattle.bk_func.specs.Words.{words_at}
 use Rattle.bk_func.specs.Numbers.{Program}
-use Rattle.bk_func.specs.Effects.{call, call_words, effect_of, chain_from}
+use Rattle.bk_func.specs.Effects.{call, call_words, effect_of}
 use Rattle.bk_func.specs.Symbols.{sig_of, symbol_of}
-use Rattle.bk_func.specs.Meaning.{World, Run, gives, stops, trapped, going, Activation, first_state, entered, entry_id, fresh, run, called, words_sent, begun}
-use Rattle.bk_func.specs.Form.Text.{HasBlock}
+use Rattle.bk_func.specs.Meaning.{World, Run, stops, trapped, going, Activation, entered, entry_id, fresh, run, words_sent, begun}
 use Rattle.bk_mean.specs.Seen.{word_in}
-use Rattle.bk_mean.specs.Turned.{Stage}
 use Rattle.bk_mean.specs.Running.{Held, Begun, TakesWords}
-use Rattle.bk_mean.specs.Symbols.{callee_of}
 use Rattle.bk_mean.specs.declared.machine.Activation.{Activation as Active}
 use Rattle.bk_mean.specs.declared.ready.Ready.{Ready}
 use Rattle.bk_mean.specs.declared.step.CallWords.{CallWords}
@@ -22,9 +19,8 @@ use Rattle.bk_mean.specs.declared.symbols.Callee.TheVariants.{Func, PanicDivide,
 use Rattle.bk_mean.proofs.Named.{to_contains, got_in, found_block}
 use Rattle.bk_mean.proofs.Formed.{sound}
 use Rattle.bk_mean.proofs.Arranged.{values_at}
-use Rattle.bk_mean.proofs.Doing.{IsAt}
 use Rattle.bk_mean.proofs.Resuming.{Frame, inside, resume, resume_stops, run_spent, run_enters, by_callee, called_by}
-use Rattle.bk_mean.proofs.Stacking.{Learnt, Sits, Suspended, WordsTaken, IsWaiting, Stacked, bottom, more, Within, Heads, Calling, ground}
+use Rattle.bk_mean.proofs.Stacking.{Learnt, Sits, Suspended, WordsTaken, Stacked, bottom, more, Within, Heads, Calling}
 use Rattle.bk_mean.proofs.Starting.{begun_heads, begun_traps, begun_enters, callee_sig}
 
 -- fewer blocks are left

@@ -1,6 +1,6 @@
 -- What is kept of a call's results are the values of its block that take them, and the order of a block is that of its values.
-use Rattle.std.proofs.Common.{◌≡◌, ℕ, ◌<◌, refl, ap, sym, ◌∙◌, subst, arith, ◌⊎◌, inl, inr, List, [], ◌∷◌, length, map, Option, Some, None, Bool, true, false, cond, get_or, eq-eqb}
-use Rattle.std.specs.Prelude.{if◌then◌else◌, filter, slice_get, slice_index, option_and_then, unwrap_or, Vec}
+use Rattle.std.proofs.Common.{◌≡◌, ℕ, ◌<◌, refl, ap, sym, ◌∙◌, subst, arith, inl, inr, List, [], ◌∷◌, length, map, Option, Some, None, Bool, true, false, eq-eqb}
+use Rattle.std.specs.Prelude.{if◌then◌else◌, filter, slice_get, option_and_then, unwrap_or, Vec}
 use Rattle.std.specs.declared.alloc.Global.{Global}
 use Rattle.std.proofs.lemmas.List.{get_or-map}
 use Rattle.std.proofs.lemmas.Bool.{eqb-true}
@@ -19,7 +19,7 @@ use Rattle.bk_mean.specs.Ready.{is_result, call_place, kept_by, results_at, Keep
 use Rattle.bk_mean.specs.declared.ready.Kept.{Kept}
 use Rattle.bk_mean.proofs.Named.{to_in, to_contains, got_index, to_flat, from_flat}
 use Rattle.bk_mean.proofs.Roles.{result_args, result_calls, first_argument}
-use Rattle.bk_mean.proofs.Formed.{Sound, sound}
+use Rattle.bk_mean.proofs.Formed.{sound}
 use Rattle.bk_mean.proofs.Knowing.{IsResultOf}
 use Rattle.bk_mean.proofs.Walked.{Arrives, arrives_meets}
 use Rattle.bk_mean.proofs.Arranged.{due_level, due_class, values_at}

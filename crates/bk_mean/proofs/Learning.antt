@@ -1,5 +1,5 @@
 -- What a run has learnt of a function that was made ready.
-use Rattle.std.proofs.Common.{◌≡◌, ℕ, sym, subst, List, length, Option, Some}
+use Rattle.std.proofs.Common.{◌≡◌, ℕ, sym, subst, List, Option, Some}
 use Rattle.std.specs.Prelude.{slice_get}
 use Rattle.std.proofs.lemmas.Option.{slice_get_within}
 use Rattle.bk_func.specs.Records.{FuncRecord}

@@ -1,26 +1,22 @@
 -- The end of a block: what is defined there is known, edges are crossed, and results are taken.
-use Rattle.std.proofs.Common.{◌≡◌, ℕ, zero, suc, ◌+◌, ◌-◌, ◌<◌, refl, ap, sym, ◌∙◌, subst, arith, ◌⊎◌, inl, inr, List, [], ◌∷◌, ◌++◌, length, take, map, append-nil, Option, Some, None, Bool, true, false}
+use Rattle.std.proofs.Common.{◌≡◌, ℕ, zero, suc, ◌+◌, ◌-◌, refl, ap, sym, ◌∙◌, subst, arith, inl, inr, List, [], ◌∷◌, ◌++◌, length, take, map, append-nil, Option, Some, None, Bool, true, false}
 use Rattle.std.specs.Prelude.{slice_get, slice_index, if◌then◌else◌}
 use Rattle.std.specs.List.{Contains}
 use Rattle.bk_ops.specs.declared.types.Ty.{Ty}
-use Rattle.bk_ops.specs.declared.family.Family.{Family}
-use Rattle.bk_ops.specs.declared.family.Family.TheVariants as op
 use Rattle.bk_func.specs.Records.{ValueRecord, BlockRecord, FuncRecord}
-use Rattle.bk_func.specs.Numbers.{Program, Env, origin_of, numbers, room, values_of, value_of}
-use Rattle.bk_func.specs.Effects.{has_effect, chain_from, is_phi}
+use Rattle.bk_func.specs.Numbers.{Program, origin_of, numbers, values_of, value_of}
+use Rattle.bk_func.specs.Effects.{chain_from, is_phi}
 use Rattle.bk_func.specs.Words.{words_at}
 use Rattle.bk_func.specs.Meaning.{World, Activation, first_state, entered, edge_place, number_named, without_memory, is_make_result, words_back, results_by, value_named}
-use Rattle.bk_func.specs.declared.form.FormKind.TheVariants.{Missing, Control, Use}
-use Rattle.bk_func.specs.Form.{IsFormed}
-use Rattle.bk_func.specs.Form.Text.{HasBlock, HasValue, Defines, IsPhi}
+use Rattle.bk_func.specs.declared.form.FormKind.TheVariants.{Missing, Control}
+use Rattle.bk_func.specs.Form.Text.{HasBlock, HasValue, IsPhi}
 use Rattle.bk_func.specs.Form.Walks.{IsReached, IsDefinedAt}
 use Rattle.bk_func.specs.Form.Signatures.{Setting, whole}
 use Rattle.bk_func.proofs.Faults.{In}
 use Rattle.bk_func.proofs.Flat.{Laid, last, more, Still}
 use Rattle.bk_mean.specs.Numbering.{place_in}
-use Rattle.bk_mean.specs.Machine.{at_place, arg_number}
-use Rattle.bk_mean.specs.Ready.{IsReadyValue, AreReadyValues, IsReadyBlock, count_values, phis_from}
-use Rattle.bk_mean.specs.Seen.{word_in}
+use Rattle.bk_mean.specs.Machine.{at_place}
+use Rattle.bk_mean.specs.Ready.{IsReadyValue, AreReadyValues, count_values, phis_from}
 use Rattle.bk_mean.specs.Left.{put_all, phi_number, phi_numbers, given_words, results_of}
 use Rattle.bk_mean.specs.Turned.{Stage, Ground}
 use Rattle.bk_mean.specs.declared.ready.ReadyValue.{ReadyValue}
@@ -29,15 +25,14 @@ use Rattle.bk_mean.proofs.Named.{to_in, to_contains, got_in, in_got, found_value
 use Rattle.bk_mean.proofs.Dominance.{Home, home, defined_before, arguments_defined, reached_block, reached_over}
 use Rattle.bk_mean.proofs.Formed.{Sound, sound}
 use Rattle.bk_mean.proofs.Chains.{effect_no_phi}
-use Rattle.bk_mean.proofs.Laying.{Filled}
-use Rattle.bk_mean.proofs.Along.{IsShown, entered_shown}
+use Rattle.bk_mean.proofs.Along.{entered_shown}
 use Rattle.bk_mean.proofs.Edges.{edge_arrives, phi_argument_defined}
 use Rattle.bk_mean.proofs.Walked.{Arrives, Departs, arrives_over, arrives_reached, departs, last_state}
 use Rattle.bk_mean.proofs.Filling.{filled_in, memory_after}
 use Rattle.bk_mean.proofs.Knowing.{knows_end, knows_entered}
 use Rattle.bk_mean.proofs.Tabled.{table, table_read, place_at, place_apart, place_below, ready_at, ready_there}
 use Rattle.bk_mean.proofs.Putting.{put_length, put_other, put_own, phi_listed, listed_phi}
-use Rattle.bk_mean.proofs.Doing.{Order, IsBlank, IsAt, phi_family}
+use Rattle.bk_mean.proofs.Doing.{Order, IsAt, phi_family}
 
 -- the state of memory at the end
 

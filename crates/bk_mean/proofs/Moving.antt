@@ -1,7 +1,7 @@
 -- A machine that is inside a block does the rest of it, and what that means is what it comes to.
-use Rattle.std.proofs.Common.{◌≡◌, ℕ, zero, suc, ◌+◌, ◌-◌, ◌<◌, ◌≤◌, ◌%◌, ◌==◌, refl, ap, sym, ◌∙◌, subst, arith, ◌⊎◌, inl, inr, List, [], ◌∷◌, ◌++◌, length, take, drop, map, append_assoc, length-append, Option, Some, None, Bool, true, false, not, cond, eq-eqb}
-use Rattle.std.specs.Prelude.{slice_get, slice_index, position, count_by, find, is_some, IsSome, if◌then◌else◌}
-use Rattle.std.specs.List.{AllZip, Contains, All, position_or_len}
+use Rattle.std.proofs.Common.{◌≡◌, ℕ, zero, suc, ◌+◌, ◌-◌, ◌<◌, ◌%◌, ◌==◌, refl, ap, sym, ◌∙◌, subst, arith, inl, inr, List, [], ◌∷◌, ◌++◌, length, take, drop, map, length-append, Option, Some, None, Bool, true, false, not, cond}
+use Rattle.std.specs.Prelude.{slice_get, slice_index, position, count_by, is_some, IsSome, if◌then◌else◌}
+use Rattle.std.specs.List.{AllZip, All, position_or_len}
 use Rattle.std.proofs.lemmas.Bool.{eqb-true, lt-ltb}
 use Rattle.std.proofs.lemmas.Option.{slice_get_within, get_or_from_slice_get}
 use Rattle.std.proofs.lemmas.List.Sums.{sum_by-cons}
@@ -10,29 +10,26 @@ use Rattle.bk_ops.specs.declared.family.Family.{Family}
 use Rattle.bk_ops.specs.declared.family.Family.TheVariants as op
 use Rattle.bk_ops.specs.declared.family.ArmOp.TheVariants as arm
 use Rattle.bk_ops.specs.declared.family.RvOp.TheVariants as rv
-use Rattle.bk_ops.specs.declared.types.Target.{Target}
 use Rattle.bk_ops.specs.declared.types.Ty.{Ty}
 use Rattle.bk_func.specs.declared.parts.Kind.{Kind}
 use Rattle.bk_func.specs.declared.parts.Kind.TheVariants.{Plain, If, First, Ret, Exit}
-use Rattle.bk_func.specs.Records.{SigRecord, ValueRecord, BlockRecord, FuncRecord, PackageRecord}
+use Rattle.bk_func.specs.Records.{ValueRecord, BlockRecord, FuncRecord}
 use Rattle.bk_func.specs.Edits.{block_of}
 use Rattle.bk_func.specs.Numbers.{Program, numbers, room, values_of, is_mem}
-use Rattle.bk_func.specs.Effects.{Effect, call, call_words, pass, effect_of, has_effect, chain_from}
+use Rattle.bk_func.specs.Effects.{Effect, call, call_words, pass, effect_of, has_effect}
 use Rattle.bk_func.specs.Symbols.{sig_of, symbol_of}
-use Rattle.bk_func.specs.Meaning.{Outcome, World, Run, gives, stops, bind, trapped, wild, Activation, Entries, first_state, entered, edge_place, run, called, words_sent, without_memory, left_by, onto, results_by, value_named, is_taken}
+use Rattle.bk_func.specs.Meaning.{Outcome, World, Run, gives, stops, bind, trapped, wild, Activation, first_state, entered, edge_place, run, called, words_sent, without_memory, left_by, onto, is_taken}
 use Rattle.bk_func.specs.declared.form.FormKind.TheVariants.{Missing, Control, Use}
 use Rattle.bk_func.specs.Form.{IsFormed}
-use Rattle.bk_func.specs.Form.Text.{HasBlock, HasValue, IsPhi}
-use Rattle.bk_func.specs.Form.Walks.{IsReached, IsDefinedAt}
+use Rattle.bk_func.specs.Form.Text.{HasBlock}
+use Rattle.bk_func.specs.Form.Walks.{IsDefinedAt}
 use Rattle.bk_func.specs.Form.Parts.{IsBlockNumber, FitsKind, KeepsControl}
-use Rattle.bk_func.proofs.Faults.{In}
 use Rattle.bk_func.proofs.Flat.{flat}
 use Rattle.bk_mean.specs.Numbering.{place_in}
-use Rattle.bk_mean.specs.Ready.{AreReadyValues, IsReadyValue, IsReadyBlock, IsReadyEdge, count_values, control_place}
-use Rattle.bk_mean.specs.Turned.{Stage, Ground, Turned}
+use Rattle.bk_mean.specs.Ready.{IsReadyValue, IsReadyBlock, IsReadyEdge, count_values, control_place}
+use Rattle.bk_mean.specs.Turned.{Stage, Ground}
 use Rattle.bk_mean.specs.Left.{put_all, phi_numbers, results_of, Desk, Goes, Leaves, Crosses, Enters, Begins, Ran, GoesOn, going, chosen}
 use Rattle.bk_mean.specs.Running.{Held, Store, stored, Moved, MovesOn}
-use Rattle.bk_mean.specs.Symbols.{callee_of}
 use Rattle.bk_mean.specs.declared.machine.Activation.{Activation as Active}
 use Rattle.bk_mean.specs.declared.ready.Edge.{Edge}
 use Rattle.bk_mean.specs.declared.ready.Ready.{Ready}
@@ -43,20 +40,18 @@ use Rattle.bk_mean.specs.declared.step.After.{After}
 use Rattle.bk_mean.specs.declared.step.After.TheVariants as after
 use Rattle.bk_mean.specs.declared.turn.Next.{Next}
 use Rattle.bk_mean.specs.declared.turn.Next.TheVariants as next
-use Rattle.bk_mean.proofs.Named.{to_in, to_contains, got_in, got_index, found_block}
+use Rattle.bk_mean.proofs.Named.{to_contains, got_in, got_index, found_block}
 use Rattle.bk_mean.proofs.Formed.{sound}
-use Rattle.bk_mean.proofs.Dominance.{reached_block}
 use Rattle.bk_mean.proofs.Chains.{effect_no_phi}
 use Rattle.bk_mean.proofs.Arranged.{due_level, due_class, values_at}
-use Rattle.bk_mean.proofs.Walked.{Arrives, arrives_reached}
+use Rattle.bk_mean.proofs.Walked.{arrives_reached}
 use Rattle.bk_mean.proofs.Tables.{Turn, arguments_known}
 use Rattle.bk_mean.proofs.Tabled.{table, table_read, ready_at, ready_there}
 use Rattle.bk_mean.proofs.Doing.{Order, IsAt, Comes, stage_same}
 use Rattle.bk_mean.proofs.Rounds.{Waits, Round, round}
 use Rattle.bk_mean.proofs.Leaving.{end_known, crosses_to, crossed, results_taken, same_map, in_take, without_places}
-use Rattle.bk_mean.proofs.Putting.{put_length}
 use Rattle.bk_mean.proofs.Resuming.{Frame, inside, resume, resume_stops, called_on, one_calls, one_calls_words, wait_run}
-use Rattle.bk_mean.proofs.Stacking.{Learnt, Sits, Suspended, Stacked, Within, Heads, Calling, ground}
+use Rattle.bk_mean.proofs.Stacking.{Learnt, Sits, Suspended, Within, Heads, Calling, ground}
 
 -- lists
 

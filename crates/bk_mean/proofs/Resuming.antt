@@ -1,13 +1,13 @@
 -- Calls that wait in a run, and how the run goes on with what they are given.
-use Rattle.std.proofs.Common.{◌≡◌, ℕ, zero, suc, refl, ap, sym, ◌∙◌, ◌⊎◌, inl, inr, List, [], ◌∷◌, map, Option, Some, None, Bool, true, false, ◌==◌}
+use Rattle.std.proofs.Common.{◌≡◌, ℕ, zero, suc, refl, ap, sym, ◌∙◌, List, [], ◌∷◌, map, Option, Some, None, Bool, true, false, ◌==◌}
 use Rattle.std.specs.Prelude.{slice_get, position, is_some, if◌then◌else◌}
 use Rattle.bk_func.specs.Records.{ValueRecord, BlockRecord, FuncRecord}
 use Rattle.bk_func.specs.Edits.{block_of}
 use Rattle.bk_func.specs.Numbers.{Program, numbers}
 use Rattle.bk_func.specs.Effects.{Effect, call, call_words, effect_of, chain_from}
 use Rattle.bk_func.specs.Symbols.{sig_of, symbol_of, panic_divide, panic_shift}
-use Rattle.bk_func.specs.Meaning.{Outcome, with_given, words_sent, World, Run, gives, stops, bind, trapped, going, Activation, Entries, Calls, done_by, done_at, halted, fault_at, in_state, in_func, in_block, at_count, entered, first_state, performed, left_by, run, called, begun, begun_at, without_memory}
-use Rattle.bk_func.proofs.Flat.{Laid, one, flat, bind_bind, bind_same, performed_flat}
+use Rattle.bk_func.specs.Meaning.{Outcome, with_given, words_sent, World, Run, gives, stops, bind, trapped, going, Activation, Entries, Calls, done_by, done_at, halted, fault_at, in_state, in_func, in_block, at_count, entered, first_state, left_by, run, called, begun, begun_at, without_memory}
+use Rattle.bk_func.proofs.Flat.{Laid, one, flat, bind_bind, performed_flat}
 use Rattle.bk_mean.specs.declared.symbols.Callee.{Callee}
 use Rattle.bk_mean.specs.declared.symbols.Callee.TheVariants.{Func, PanicDivide, PanicShift, Missing}
 use Rattle.bk_mean.specs.Symbols.{callee_of, callee_found}

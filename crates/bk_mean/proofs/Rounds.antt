@@ -4,7 +4,7 @@ use Rattle.std.specs.Prelude.{slice_get}
 use Rattle.bk_func.specs.Records.{ValueRecord, BlockRecord, FuncRecord}
 use Rattle.bk_func.specs.Numbers.{Program, values_of}
 use Rattle.bk_func.specs.Effects.{call, call_words, effect_of}
-use Rattle.bk_func.specs.Meaning.{World, Run, gives, stops, bind, trapped, wild, Activation, Calls}
+use Rattle.bk_func.specs.Meaning.{World, Run, gives, bind, Activation, Calls}
 use Rattle.bk_func.specs.declared.form.FormKind.TheVariants.{Missing}
 use Rattle.bk_func.specs.Form.Text.{HasValue}
 use Rattle.bk_func.specs.Form.Signatures.{Setting}

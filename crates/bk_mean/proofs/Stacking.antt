@@ -1,26 +1,24 @@
 -- Calls upon calls: what a machine has of each, and what it means.
-use Rattle.std.proofs.Common.{◌≡◌, ℕ, zero, suc, ◌+◌, ◌<◌, ◌≤◌, refl, ap, sym, ◌∙◌, subst, arith, ◌⊎◌, inl, inr, List, [], ◌∷◌, ◌++◌, length, take, drop, map, append_assoc, length-append, Option, Some, None, Bool, true, false}
-use Rattle.std.specs.Prelude.{slice_get, slice_index, replicate, Vec}
+use Rattle.std.proofs.Common.{◌≡◌, ℕ, ◌≤◌, ◌⊎◌, List, [], ◌∷◌, ◌++◌, length, drop, Option, Some, Bool, true, false}
+use Rattle.std.specs.Prelude.{slice_get, Vec}
 use Rattle.std.specs.declared.alloc.Global.{Global}
-use Rattle.std.specs.List.{AllZip, last_or}
-use Rattle.bk_func.specs.Records.{SigRecord, ValueRecord, BlockRecord, FuncRecord, PackageRecord}
-use Rattle.bk_func.specs.Numbers.{Program, room, values_of, origin_of, result}
+use Rattle.bk_func.specs.Records.{ValueRecord, BlockRecord, FuncRecord}
+use Rattle.bk_func.specs.Numbers.{Program, values_of}
 use Rattle.bk_func.specs.Effects.{call, call_words, effect_of}
 use Rattle.bk_func.specs.Symbols.{sig_of, symbol_of}
-use Rattle.bk_func.specs.Meaning.{World, Run, gives, stops, Activation, first_state, entered, run as runs, called, words_sent}
+use Rattle.bk_func.specs.Meaning.{World, Run, Activation, first_state, entered, run as runs, called, words_sent}
 use Rattle.bk_func.specs.Form.{IsFormed}
 use Rattle.bk_func.specs.Form.Text.{HasValue}
 use Rattle.bk_func.specs.Form.Signatures.{Setting, whole}
 use Rattle.bk_func.proofs.Faults.{In}
 use Rattle.bk_mean.specs.Numbering.{place_in}
-use Rattle.bk_mean.specs.Ready.{AreReadyValues, AreReadyBlocks, IsReadyValue, kept_by}
+use Rattle.bk_mean.specs.Ready.{AreReadyValues, AreReadyBlocks, kept_by}
 use Rattle.bk_mean.specs.Seen.{word_in}
-use Rattle.bk_mean.specs.Turned.{Stage, Ground}
+use Rattle.bk_mean.specs.Turned.{Ground}
 use Rattle.bk_mean.specs.Running.{Held}
 use Rattle.bk_mean.specs.declared.machine.Activation.{Activation as Active}
 use Rattle.bk_mean.specs.declared.ready.Kept.{Kept}
 use Rattle.bk_mean.specs.declared.ready.Ready.{Ready}
-use Rattle.bk_mean.specs.declared.ready.ReadyValue.{ReadyValue}
 use Rattle.bk_mean.specs.declared.ready.ReadyBlock.{ReadyBlock}
 use Rattle.bk_mean.specs.declared.step.CallWords.{CallWords}
 use Rattle.bk_mean.specs.declared.symbols.Callee.{Callee}

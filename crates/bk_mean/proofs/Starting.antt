@@ -1,5 +1,5 @@
 -- A call of a function that is ready begins at its entry.
-use Rattle.std.proofs.Common.{◌≡◌, ℕ, zero, suc, ◌+◌, ◌-◌, ◌<◌, ◌≤◌, refl, ap, sym, ◌∙◌, subst, arith, ◌⊎◌, inl, inr, List, [], ◌∷◌, ◌++◌, length, take, drop, map, append_assoc, append-nil, length-append, get_or, Option, Some, None, Bool, true, false, cond, not}
+use Rattle.std.proofs.Common.{◌≡◌, ℕ, zero, suc, ◌+◌, ◌-◌, ◌<◌, ◌≤◌, refl, ap, sym, ◌∙◌, subst, arith, inl, inr, List, [], ◌∷◌, length, Option, Some, None, Bool, true, false, cond, not}
 use Rattle.std.specs.Prelude.{slice_get, slice_index, replicate, find, position, nat_lt, if◌then◌else◌, ◌==◌}
 use Rattle.std.specs.List.{Contains, position_or_len}
 use Rattle.std.proofs.Math.Path.{fun_ext}
@@ -7,42 +7,35 @@ use Rattle.std.proofs.lemmas.Bool.{ltb-true}
 use Rattle.std.proofs.lemmas.Option.{slice_get_within}
 use Rattle.bk_ops.specs.declared.family.Family.{Family}
 use Rattle.bk_ops.specs.declared.family.Family.TheVariants as op
-use Rattle.bk_func.specs.Records.{SigRecord, ValueRecord, BlockRecord, FuncRecord, PackageRecord}
+use Rattle.bk_func.specs.Records.{ValueRecord, BlockRecord, FuncRecord, PackageRecord}
 use Rattle.bk_func.specs.Numbers.{Program, numbers, room, result, origin_of}
-use Rattle.bk_func.specs.Effects.{call, call_words, effect_of}
-use Rattle.bk_func.specs.Symbols.{sig_of, sig_of_some, symbol_of, panic_divide, panic_shift}
-use Rattle.bk_func.specs.Meaning.{World, Run, gives, stops, trapped, Activation, first_state, entered, entry_id, fresh, run, begun, begun_in, number_named}
-use Rattle.bk_func.specs.declared.form.FormKind.TheVariants.{Missing, Control}
+use Rattle.bk_func.specs.Symbols.{sig_of, sig_of_some, panic_divide, panic_shift}
+use Rattle.bk_func.specs.Meaning.{World, stops, trapped, Activation, entered, entry_id, fresh, run, begun, begun_in, number_named}
+use Rattle.bk_func.specs.declared.form.FormKind.TheVariants.{Control}
 use Rattle.bk_func.specs.Form.{IsFormed}
 use Rattle.bk_func.specs.Form.Text.{HasBlock, HasValue, Defines, IsEntry, IsPhi}
-use Rattle.bk_func.specs.Form.Walks.{Walk, begin, IsReached, IsDefinedAt}
+use Rattle.bk_func.specs.Form.Walks.{begin, IsDefinedAt}
 use Rattle.bk_func.specs.Form.Signatures.{Setting}
 use Rattle.bk_func.specs.Form.Parts.{HasArity}
-use Rattle.bk_func.proofs.Faults.{In}
 use Rattle.bk_mean.specs.Numbering.{place_in}
-use Rattle.bk_mean.specs.Seen.{word_in}
-use Rattle.bk_mean.specs.Turned.{Stage}
 use Rattle.bk_mean.specs.Running.{Held, Begun}
 use Rattle.bk_mean.specs.Symbols.{callee_of, callee_found}
-use Rattle.bk_mean.specs.declared.machine.Activation.{Activation as Active}
 use Rattle.bk_mean.specs.declared.ready.Ready.{Ready}
 use Rattle.bk_mean.specs.declared.ready.ReadyBlock.{ReadyBlock}
-use Rattle.bk_mean.specs.declared.symbols.Callee.{Callee}
-use Rattle.bk_mean.specs.declared.symbols.Callee.TheVariants.{Func, PanicDivide, PanicShift, Missing as NoCallee}
+use Rattle.bk_mean.specs.declared.symbols.Callee.TheVariants.{Func, PanicDivide, PanicShift}
 use Rattle.bk_mean.proofs.Named.{to_in, to_contains, got_in}
 use Rattle.bk_mean.proofs.Formed.{Sound, sound}
-use Rattle.bk_mean.proofs.Dominance.{entry_reached, reached_block}
+use Rattle.bk_mean.proofs.Dominance.{entry_reached}
 use Rattle.bk_mean.proofs.Roles.{result_args, result_calls, first_argument}
 use Rattle.bk_mean.proofs.Edges.{phi_entered}
 use Rattle.bk_mean.proofs.Arranged.{values_at}
-use Rattle.bk_mean.proofs.Along.{IsShown, entered_shown}
-use Rattle.bk_mean.proofs.Walked.{Arrives, arrives_first}
-use Rattle.bk_mean.proofs.Tables.{IsKnown, IsReady, IsSettled, Knows}
+use Rattle.bk_mean.proofs.Along.{entered_shown}
+use Rattle.bk_mean.proofs.Walked.{arrives_first}
+use Rattle.bk_mean.proofs.Tables.{IsReady, IsSettled, Knows}
 use Rattle.bk_mean.proofs.Knowing.{result_takes}
 use Rattle.bk_mean.proofs.Tabled.{table}
-use Rattle.bk_mean.proofs.Doing.{IsAt, IsBlank}
 use Rattle.bk_mean.proofs.Resuming.{Frame, resume}
-use Rattle.bk_mean.proofs.Stacking.{Learnt, Sits, Stacked, Heads, ground}
+use Rattle.bk_mean.proofs.Stacking.{Learnt, Stacked, Heads}
 use Rattle.bk_mean.proofs.Moving.{get_there, zip_length}
 
 -- lists of zeros

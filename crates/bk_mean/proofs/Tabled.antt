@@ -1,6 +1,6 @@
 -- Numbers by places, as a table by the numbers of values.
-use Rattle.std.proofs.Common.{◌≡◌, ℕ, zero, suc, ◌+◌, ◌<◌, ◌≤◌, ◌≢◌, ◌==◌, refl, ap, sym, ◌∙◌, subst, arith, ◌⊎◌, inl, inr, List, [], ◌∷◌, ◌++◌, length, take, map, length-append, get_or, Option, Some, None, Bool, true, false, cond, not, eq-eqb}
-use Rattle.std.specs.Prelude.{slice_get, slice_index, slice_set, unwrap_or, position, flat_map, sum_by, count_by, nat_lt}
+use Rattle.std.proofs.Common.{◌≡◌, ℕ, zero, suc, ◌+◌, ◌<◌, ◌≤◌, ◌≢◌, ◌==◌, refl, ap, sym, ◌∙◌, subst, arith, ◌⊎◌, inl, inr, List, [], ◌∷◌, ◌++◌, length, take, map, length-append, Some, None, Bool, true, false, cond, not, eq-eqb}
+use Rattle.std.specs.Prelude.{slice_get, slice_index, slice_set, unwrap_or, flat_map, sum_by, count_by, nat_lt}
 use Rattle.std.specs.List.{Contains, position_or_len, AllZip}
 use Rattle.std.proofs.lemmas.Bool.{eqb-true, ltb-false}
 use Rattle.std.proofs.lemmas.List.{get_or-set_same, get_or-set_other}
@@ -10,7 +10,7 @@ use Rattle.bk_func.specs.Records.{ValueRecord, BlockRecord, FuncRecord, PackageR
 use Rattle.bk_func.specs.Numbers.{values_of, room}
 use Rattle.bk_func.specs.declared.form.FormKind.TheVariants.{Missing}
 use Rattle.bk_func.specs.Form.{Keeps}
-use Rattle.bk_func.specs.Form.Text.{HasBlock, HasValue}
+use Rattle.bk_func.specs.Form.Text.{HasValue}
 use Rattle.bk_func.specs.Form.Signatures.{Setting}
 use Rattle.bk_func.specs.Form.Parts.{IsValueNumber}
 use Rattle.bk_mean.specs.Numbering.{place_in}

@@ -1,8 +1,7 @@
 -- One more turn of a block's values.
-use Rattle.std.proofs.Common.{◌≡◌, ℕ, ◌+◌, ◌<◌, ◌≤◌, refl, ap, sym, ◌∙◌, subst, ◌⊎◌, inl, inr, List, [], ◌∷◌, ◌++◌, length, length-append, arith, ◌-◌, take, drop, get_or, Option, Some, None}
-use Rattle.std.specs.Prelude.{slice_get}
+use Rattle.std.proofs.Common.{◌≡◌, ℕ, ◌+◌, ◌<◌, ◌≤◌, refl, ap, sym, ◌∙◌, subst, List, [], ◌∷◌, ◌++◌, length, length-append, arith, ◌-◌, take, drop, get_or, Option, Some, None}
 use Rattle.std.proofs.lemmas.List.{drop_more}
-use Rattle.bk_func.specs.Records.{ValueRecord, BlockRecord}
+use Rattle.bk_func.specs.Records.{BlockRecord}
 use Rattle.bk_mean.specs.declared.step.After.{After}
 use Rattle.bk_mean.specs.declared.step.After.TheVariants.{On}
 use Rattle.bk_mean.specs.declared.ready.ReadyValue.{ReadyValue}

@@ -1,4 +1,4 @@
-use Rattle.std.proofs.Common.{rules, ◌≡◌, ◌<◌, ◌++◌, ◌∙◌, List, ℕ, ap, sym, subst, length, length-append, arith, drop, vec_len}
+use Rattle.std.proofs.Common.{◌≡◌, ◌<◌, ◌∙◌, List, ℕ, ap, sym, subst, length, length-append, arith, drop, vec_len}
 use Rattle.bk_mean.specs.Left.{GoesOn}
 use Rattle.bk_mean.proofs.Turning.{changed_from}
 use Rattle.bk_mean.proofs.machine.go_in.Goals as goal

@@ -1,4 +1,4 @@
-use Rattle.std.proofs.Common.{◌++◌, ◌<◌, ◌∙◌, refl, sym, ap, subst, arith, length, map, append-nil, List}
+use Rattle.std.proofs.Common.{◌++◌, ◌<◌, ◌∙◌, refl, sym, subst, arith, length, map, append-nil, List}
 use Rattle.std.proofs.lemmas.List.{take_all}
 use Rattle.bk_func.specs.Records.{ValueRecord}
 use Rattle.bk_mean.specs.Ready.{KeepsResults}

@@ -1,4 +1,4 @@
-use Rattle.std.proofs.Common.{rules, ◌≡◌, ◌+◌, ◌<◌, ◌≤◌, List, ℕ, [], sym, ◌∙◌, ap, subst, arith, length, drop, get_or, Some, None, true, false}
+use Rattle.std.proofs.Common.{rules, ◌≡◌, ◌+◌, ◌<◌, ◌≤◌, List, ℕ, [], sym, ◌∙◌, ap, subst, arith, length, drop, get_or}
 use Rattle.std.proofs.Math.ListN.{drop_of_length-le}
 use Rattle.bk_mean.specs.declared.machine.Activation.{Activation}
 use Rattle.bk_mean.specs.declared.step.After.TheVariants.{On}

@@ -1,7 +1,7 @@
 use Rattle.std.proofs.Common.{◌≡◌, List, ℕ, drop}
 use Rattle.bk_mean.specs.declared.step.After.{After}
 use Rattle.bk_mean.specs.Left.{going}
-use Rattle.bk_mean.specs.Turned.{Stage, Ground, Turned}
+use Rattle.bk_mean.specs.Turned.{Stage, Turned}
 use Rattle.bk_mean.proofs.turn.turns.Given as goal
 
 abbrev pub invariant-loop-at : goal.invariant-loop-at

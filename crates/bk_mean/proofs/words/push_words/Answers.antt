@@ -1,4 +1,4 @@
-use Rattle.std.proofs.Common.{◌≡◌, ◌+◌, ◌-◌, ◌++◌, ◌∷◌, ◌∙◌, [], ap, arith}
+use Rattle.std.proofs.Common.{◌+◌, ◌-◌, ◌++◌, ◌∷◌, ◌∙◌, [], ap, arith}
 use Rattle.bk_func.specs.Words.{words_at}
 use Rattle.bk_mean.specs.Seen.{word_in}
 use Rattle.bk_mean.proofs.Written.{words_more}

@@ -1,11 +1,9 @@
-use Rattle.std.proofs.Common.{rules, refl, ◌≡◌, sym, ◌∙◌, ap, subst, arith, ℕ, [], List, ◌++◌, ◌∷◌}
+use Rattle.std.proofs.Common.{rules, refl, ◌≡◌, sym, ◌∙◌, ap, ℕ, []}
 use Rattle.std.specs.Prelude.{Vec}
 use Rattle.std.specs.declared.alloc.Global.{Global}
-use Rattle.bk_ops.specs.declared.types.Target.{Target}
 use Rattle.bk_mean.specs.declared.machine.Activation.{Activation}
-use Rattle.bk_mean.specs.declared.turn.Next.{Next}
 use Rattle.bk_mean.specs.declared.turn.Next.TheVariants as next
-use Rattle.bk_mean.specs.Running.{Held, held, Store, Moved, Ended, Advanced, top}
+use Rattle.bk_mean.specs.Running.{held}
 use Rattle.bk_mean.proofs.Turning.{advanced_on, advanced_back, advanced_none}
 use Rattle.bk_mean.proofs.machine.Machine.advance.Goals as goal
 
