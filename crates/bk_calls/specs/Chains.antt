@@ -124,11 +124,12 @@ called None p n v = record v {
 }
 called (Some k) p n v = record v { op = plain op.Trap; ty = Mem; args = last v.args ∷ []; int = pos k; aux = beside.Nothing }
 
--- the call and the place of a result that one of r registers holds
+-- the place of a result where one of r registers holds it
 abbrev pub register_place : ℕ → ℤ → Option ℕ
 register_place r (pos i) = if nat_lt i r then Some i else None
 register_place r (negsuc i) = None
 
+-- the call and the place of a result in a register; none for any other value
 abbrev pub key_by : Role → Bool → Option ℕ → ValueRecord → Option (ℕ × ℕ)
 key_by Selection false (Some i) v = Some (slice_index v.args 0, i)
 key_by _ _ _ v = None
