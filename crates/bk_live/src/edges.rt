@@ -49,6 +49,20 @@ impl Edges {
         Ok(edges)
     }
 
+    /// From the place of each block to those of its successors.
+    pub(crate) fn onwards(
+        alloc: Global,
+        blocks: &[Block],
+        places: &Places,
+    ) -> Result<Edges, AllocError>
+    {
+        let mut lists = Vec::with_capacity(alloc, blocks.len())?;
+        for block in blocks {
+            lists.push(places.find_all(alloc, &block.succs)?)?;
+        }
+        Ok(Edges { lists })
+    }
+
     /// An edge from each of the blocks with these numbers.
     fn add_all(&mut self, places: &Places, numbers: &[u32], to: usize) -> Result<(), AllocError>
         ensures { OnOk result (AddsEdges (λ e. IsNamed (place places.now) numbers.now e.0 × (e.1 ≡ to)) self.old self.new) }

@@ -1,6 +1,7 @@
 //! Values that are live where blocks begin, and the distances to their next uses.
 #![tactic(auto)]
 
+mod counts;
 mod edges;
 mod homes;
 mod live;
@@ -8,8 +9,11 @@ mod next;
 mod places;
 mod rows;
 mod search;
+mod table;
 mod uses;
 
 pub use bk_func::Memory;
 pub use live::live_in;
 pub use next::next_use;
+pub use rows::LiveValue;
+pub use table::Table;

@@ -29,4 +29,19 @@ impl Places {
     {
         self.places.get(&number).copied()
     }
+
+    /// The places of the blocks with these numbers.
+    pub(crate) fn find_all(&self, alloc: Global, numbers: &[u32]) -> Result<Vec<usize>, AllocError> {
+        let mut places = Vec::new(alloc);
+        for number in numbers {
+            push_place(&mut places, self.find(*number))?;
+        }
+        Ok(places)
+    }
+}
+
+fn push_place(places: &mut Vec<usize>, place: Option<usize>) -> Result<(), AllocError> {
+    let Some(place) = place else { return Ok(()) };
+    places.push(place)?;
+    Ok(())
 }

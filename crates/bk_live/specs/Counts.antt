@@ -1,0 +1,35 @@
+-- How many scheduled places stand before the entries of orders.
+use Rattle.std.specs.Prelude.{◌≡◌, ℕ, suc, ◌+◌, ◌-◌, ◌<◌, ◌≤◌, List, [], length, take, Option, None, Some, slice_index_or}
+use Rattle.std.specs.List.{slice_get, sum_by}
+use Rattle.std.specs.Option.{option_and_then, unwrap_or}
+use Rattle.bk_func.specs.Records.{FuncRecord}
+use Rattle.bk_live.specs.Live.{cost, order_at}
+
+-- how many of the first k entries are no phis
+abbrev pub cost_of : FuncRecord → List ℕ → ℕ → ℕ
+cost_of f order k = sum_by (cost f) (take k order)
+
+-- the row has the count of each front of the order
+pub record IsCounted (f : FuncRecord) (order row : List ℕ) : Type 0 where
+  pub size : length row ≡ length order + 1
+  pub each : (k : ℕ) → k ≤ length order → slice_get row k ≡ Some (cost_of f order k)
+
+pub record AreCounts (f : FuncRecord) (os rows : List (List ℕ)) : Type 0 where
+  pub size : length rows ≡ length os
+  pub each : (i : ℕ) → i < length os → IsCounted f (order_at os i) (slice_index_or rows i [])
+
+abbrev pub count_at : List (List ℕ) → ℕ → ℕ → Option ℕ
+count_at rows i k = option_and_then (λ row. slice_get row k) (slice_get rows i)
+
+-- the last count of a row
+abbrev pub total_at : List (List ℕ) → ℕ → ℕ
+total_at rows i = slice_index_or (slice_index_or rows i []) (length (slice_index_or rows i []) - 1) 0
+
+-- the place behind is counted
+abbrev pub steps_between : ℕ → ℕ → ℕ
+steps_between before behind = (behind - before) + 1
+
+-- how far it is through each block, its end counted
+pub record AreLengths (rows : List (List ℕ)) (lengths : List ℕ) : Type 0 where
+  pub size : length lengths ≡ length rows
+  pub each : (i : ℕ) → i < length rows → slice_get lengths i ≡ Some (total_at rows i + 1)
