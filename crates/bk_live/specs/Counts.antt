@@ -22,14 +22,16 @@ abbrev pub count_at : List (List ℕ) → ℕ → ℕ → Option ℕ
 count_at rows i k = option_and_then (λ row. slice_get row k) (slice_get rows i)
 
 -- the last count of a row
+abbrev pub last_of : List ℕ → ℕ
+last_of row = slice_index_or row (length row - 1) 0
+
 abbrev pub total_at : List (List ℕ) → ℕ → ℕ
-total_at rows i = slice_index_or (slice_index_or rows i []) (length (slice_index_or rows i []) - 1) 0
+total_at rows i = last_of (slice_index_or rows i [])
 
 -- the place behind is counted
 abbrev pub steps_between : ℕ → ℕ → ℕ
 steps_between before behind = (behind - before) + 1
 
--- how far it is through each block, its end counted
-pub record AreLengths (rows : List (List ℕ)) (lengths : List ℕ) : Type 0 where
-  pub size : length lengths ≡ length rows
-  pub each : (i : ℕ) → i < length rows → slice_get lengths i ≡ Some (total_at rows i + 1)
+-- how far it is through a block with these counts, its end counted
+abbrev pub length_of : List ℕ → ℕ
+length_of row = steps_between 0 (last_of row)

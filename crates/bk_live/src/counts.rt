@@ -3,8 +3,9 @@ ghost use Rattle.std.specs.Prelude.{◌≡◌, ℕ, ◌+◌, ◌-◌, ◌||◌, 
 ghost use Rattle.std.specs.BTreeSet.{contains};
 ghost use Rattle.std.specs.List.{list_any};
 ghost use Rattle.std.specs.Ordering.{nat_cmp};
-ghost use Rattle.bk_live.specs.Counts.{AreCounts, IsCounted, AreLengths, count_at, steps_between, total_at};
+ghost use Rattle.bk_live.specs.Counts.{AreCounts, IsCounted, count_at, last_of, length_of, steps_between, total_at};
 ghost use Rattle.bk_live.specs.Live.{cost, is_phi, names_phi};
+ghost use Rattle.bk_func.specs.Records.{FuncRecord};
 
 use crate::uses::is_phi;
 use bk_func::{Func, Value};
@@ -50,21 +51,28 @@ impl Counts {
         ensures { result ≡ total_at self.now place }
     {
         match self.rows.get(place) {
-            Some(row) => row.last().copied().unwrap_or(0),
+            Some(row) => last_of(row),
             None => 0,
         }
     }
 
     /// How far it is through each block, its end counted.
     pub(crate) fn lengths(&self, alloc: Global) -> Result<Vec<u64>, AllocError>
-        ensures { IfOk result (λ lengths. AreLengths self.now lengths.items) }
+        ensures { IfOk result (λ lengths. lengths.items ≡ map length_of self.now) }
     {
         let mut lengths = Vec::with_capacity(alloc, self.rows.len())?;
-        for place in 0..self.rows.len() {
-            lengths.push(steps_between(0, self.total(place)))?;
+        for row in &self.rows {
+            lengths.push(steps_between(0, last_of(row)))?;
         }
         Ok(lengths)
     }
+}
+
+/// The last count of a row.
+fn last_of(row: &[u32]) -> u32
+    ensures { result ≡ last_of row.now }
+{
+    row.last().copied().unwrap_or(0)
 }
 
 /// How far it is from behind so many scheduled places to behind so many, the one behind them counted.
@@ -75,6 +83,7 @@ pub(crate) fn steps_between(before: u32, behind: u32) -> u64
 }
 
 fn row_of(alloc: Global, phis: &BTreeSet<u32>, order: &[u32]) -> Result<Vec<u32>, AllocError>
+    ensures { (f : FuncRecord) → ((x : ℕ) → contains nat_cmp phis.now x ≡ names_phi f x) → IfOk result (λ row. IsCounted f order.now row.items) }
 {
     let mut count = 0;
     let mut row = Vec::with_capacity(alloc, order.len())?;
@@ -87,6 +96,7 @@ fn row_of(alloc: Global, phis: &BTreeSet<u32>, order: &[u32]) -> Result<Vec<u32>
 }
 
 fn with_entry(phis: &BTreeSet<u32>, count: u32, number: u32) -> Result<u32, AllocError>
+    ensures { (f : FuncRecord) → ((x : ℕ) → contains nat_cmp phis.now x ≡ names_phi f x) → IfOk result (λ more. more ≡ count + cost f number) }
 {
     if phis.contains(&number) {
         return Ok(count);

@@ -9,6 +9,7 @@ mod next;
 mod places;
 mod rows;
 mod search;
+mod sets;
 mod table;
 mod uses;
 

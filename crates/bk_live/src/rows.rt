@@ -1,5 +1,7 @@
 // The values that are live where blocks begin, in rows.
-ghost use Rattle.std.specs.Prelude.{◌≡◌, ℕ, ◌++◌, ◌∷◌, [], IfOk, OnOk, length, replicate, slice_index_or, slice_set};
+ghost use Rattle.std.specs.Prelude.{◌≡◌, ◌++◌, ◌∷◌, [], IfErr, IfOk, OnOk, length, map, replicate, slice_index_or};
+ghost use Rattle.bk_live.specs.Rows.{AddsFound, HasNot, IsRising, StandsIn, distance_in, values_of, with_live};
+ghost use Rattle.bk_live.specs.Search.{Marks};
 
 use crate::search::Search;
 use std::alloc::{AllocError, Global};
@@ -41,7 +43,10 @@ impl Rows {
     }
 
     /// Adds the value to the rows of all places that the search has reached.
-    pub(crate) fn add_all(&mut self, value: u32, search: &Search) -> Result<(), AllocError> {
+    pub(crate) fn add_all(&mut self, value: u32, search: &Search) -> Result<(), AllocError>
+        requires { Marks search.now.distances.items search.now.reached.items }
+        ensures { OnOk result (AddsFound value search.now self.old self.new) }
+    {
         for place in &search.reached {
             self.add(*place, value, search.distance(*place))?;
         }
@@ -49,7 +54,9 @@ impl Rows {
     }
 
     /// Adds the value to a row, if there are such a row and a distance.
-    fn add(&mut self, place: usize, value: u32, distance: Option<u64>) -> Result<(), AllocError> {
+    fn add(&mut self, place: usize, value: u32, distance: Option<u64>) -> Result<(), AllocError>
+        ensures { OnOk result (self.new ≡ with_live self.old place value distance) }
+    {
         let Some(distance) = distance else {
             return Ok(());
         };
@@ -73,16 +80,21 @@ impl Rows {
     }
 
     /// How many places on the next use of the value is from the start of the block at this place, if it is live there.
-    pub(crate) fn distance(&self, place: usize, value: u32) -> Option<u32> {
+    pub(crate) fn distance(&self, place: usize, value: u32) -> Option<u32>
+        requires { IsRising (slice_index_or self.now place []) }
+        ensures { result ≡ distance_in (slice_index_or self.now place []) value }
+    {
         let row = self.row(place);
-        match row.binary_search_by_key(&value, |live| live.value) {
-            Ok(index) => row.get(index).map(|live| live.distance),
+        match search(row, value) {
+            Ok(index) => Some(row[index].distance),
             Err(_) => None,
         }
     }
 
     /// The values in each row.
-    pub(crate) fn values(&self, alloc: Global) -> Result<Vec<Vec<u32>>, AllocError> {
+    pub(crate) fn values(&self, alloc: Global) -> Result<Vec<Vec<u32>>, AllocError>
+        ensures { IfOk result (λ rows. map (λ r. r.items) rows.items ≡ map values_of self.now) }
+    {
         let mut rows = Vec::with_capacity(alloc, self.rows.len())?;
         for row in &self.rows {
             rows.push(values_of(alloc, row)?)?;
@@ -91,7 +103,9 @@ impl Rows {
     }
 }
 
-fn values_of(alloc: Global, row: &[LiveValue]) -> Result<Vec<u32>, AllocError> {
+fn values_of(alloc: Global, row: &[LiveValue]) -> Result<Vec<u32>, AllocError>
+    ensures { IfOk result (λ values. values.items ≡ values_of row.now) }
+{
     let mut values = Vec::with_capacity(alloc, row.len())?;
     for live in row {
         values.push(live.value)?;
@@ -99,8 +113,19 @@ fn values_of(alloc: Global, row: &[LiveValue]) -> Result<Vec<u32>, AllocError> {
     Ok(values)
 }
 
+/// Where the value stands in a row, or where it would.
+fn search(row: &[LiveValue], value: u32) -> Result<usize, usize>
+    requires { IsRising row.now }
+    ensures found { IfOk result (StandsIn row.now value) }
+    ensures absent { IfErr result (λ at. HasNot row.now value) }
+{
+    row.binary_search_by_key(&value, |live| live.value)
+}
+
 /// The distance in 32 bits: no function with as many places has room.
-fn short(distance: u64) -> Result<u32, AllocError> {
+fn short(distance: u64) -> Result<u32, AllocError>
+    ensures { IfOk result (λ short. short ≡ distance) }
+{
     match u32::try_from(distance) {
         Ok(short) => Ok(short),
         Err(_) => Err(AllocError),

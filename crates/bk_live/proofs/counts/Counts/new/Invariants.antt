@@ -1,0 +1,7 @@
+use Rattle.std.proofs.Common.{◌≡◌, ℕ, map, List}
+use Rattle.bk_live.specs.Counts.{AreCounts}
+use Rattle.bk_live.proofs.Counting.{RowsUpTo}
+use Rattle.bk_live.proofs.counts.Counts.new.Given as goal
+
+abbrev pub invariant-loop-order : goal.invariant-loop-order
+invariant-loop-order l = RowsUpTo l.func (map (λ o. o.items) l.orders) l.order-index (map (λ r. r.items) l.rows.items)
