@@ -57,6 +57,10 @@ fn names_and_rows(rt: HostRuntime) -> Result<(), Fail> {
         case!("ARMSTORE2" => Family::Arm(ArmOp::Store), 2 0, Some(3), Int, Class::Mem, false, true),
         case!("RVLOAD8" => Family::Rv(RvOp::Load), 8 0, Some(2), Int, Class::Word, false, true),
         case!("RVXOR" => Family::Rv(RvOp::Xor), 0 0, Some(2), None, Class::Word, true, false),
+        case!("ARGREG" => Family::ArgReg, 0 0, Some(0), Int, Class::Word, false, false),
+        case!("RESREG" => Family::ResReg, 0 0, Some(1), Int, Class::Word, false, false),
+        case!("CALLREGS" => Family::CallRegs, 0 0, None, Name, Class::Mem, false, true),
+        case!("RETREGS" => Family::RetRegs, 0 0, None, None, Class::Mem, false, true),
         case!("TRAP" => Family::Trap, 0 0, Some(1), Int, Class::Mem, false, true),
     ];
     for case in &cases {

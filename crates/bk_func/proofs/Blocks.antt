@@ -1,5 +1,5 @@
 -- A change of the first block with a number, by its place.
-use Rattle.std.proofs.Common.{◌≡◌, ℕ, ◌+◌, ◌<◌, ◌==◌, Bool, true, false, if◌then◌else◌, List, [], ◌∷◌, length, get_or, slice_set, position, Option, Some, None, refl, sym, ◌∙◌, ap, arith, zero, suc, nat_lt, not, IsSome, subst}
+use Rattle.std.proofs.Common.{◌≡◌, ℕ, ◌+◌, ◌<◌, ◌==◌, Bool, true, false, if◌then◌else◌, List, [], ◌∷◌, length, get_or, slice_set, position, Some, None, refl, sym, ◌∙◌, ap, arith, zero, suc, nat_lt, not, IsSome, subst}
 use Rattle.std.proofs.lemmas.List.{set-get_or}
 use Rattle.std.proofs.lemmas.List.Quantifiers.{position-Some}
 use Rattle.std.specs.List.{find, position_or_len}

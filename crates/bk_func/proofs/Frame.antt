@@ -2,7 +2,7 @@
 use Rattle.std.proofs.Common.{◌≡◌, ℕ, refl, ap, sym, ◌∙◌, List, Option, Some, None}
 use Rattle.std.specs.Prelude.{slice_index, unwrap_or}
 use Rattle.bk_func.specs.Records.{ValueRecord, FuncRecord}
-use Rattle.bk_func.specs.Numbers.{Program, Env, Origin, phi, argument, argument_word, result, address, loaded, checked, same, computed, origin_of, value_of, number_by, number_of, numbers, state_of, made_of, read_at, address_by, natural}
+use Rattle.bk_func.specs.Numbers.{Program, Env, Origin, phi, argument, argument_word, result, address, loaded, checked, same, computed, origin_of, value_of, number_by, number_of, numbers, state_of, made_of, read_at, address_by, result_place, cut_result}
 use Rattle.bk_func.proofs.Unique.{Ranked, solved, are_numbers}
 
 -- what a value with a number from outside reads is the same
@@ -20,7 +20,7 @@ number_by_reads : (o : Origin) (p : Program) (f : FuncRecord) (e d : Env) (m : �
 number_by_reads phi p f e d m v a h = h
 number_by_reads argument p f e d m v a h = rw a refl
 number_by_reads argument_word p f e d m v a h = rw a refl
-number_by_reads result p f e d m v a h = ap (λ (xs : List ℕ). slice_index xs (natural v.int)) h
+number_by_reads result p f e d m v a h = ap (λ (xs : List ℕ). cut_result v.op.family p.target v.ty (slice_index xs (result_place v.op.family p f v))) h
 number_by_reads address p f e d m v a h = refl
 number_by_reads loaded p f e d m v a h = ap (λ (w : List ℕ). made_of v.op.family v.ty v.op.a (read_at p.target v w (address_by p.target v m))) h
 number_by_reads checked p f e d m v a h = refl

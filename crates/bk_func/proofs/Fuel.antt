@@ -7,10 +7,10 @@ use Rattle.bk_func.specs.declared.parts.Kind.{Kind}
 use Rattle.bk_func.specs.declared.parts.Kind.TheVariants.{Plain, If, First, Ret, Exit}
 use Rattle.bk_func.specs.Records.{ValueRecord, BlockRecord, FuncRecord}
 use Rattle.bk_func.specs.Edits.{block_of}
-use Rattle.bk_func.specs.Words.{fitted, numbers_at}
+use Rattle.bk_func.specs.Symbols.{panic_divide, panic_shift, symbol_of, sig_of}
 use Rattle.bk_func.specs.Numbers.{Program, numbers, natural, address_by}
-use Rattle.bk_func.specs.Effects.{Effect, store, zeros, move, panic_bounds, call, call_words, out_word, ret_word, trap, pass, effect_of, order, chain_from}
-use Rattle.bk_func.specs.Meaning.{Outcome, trapped, going, World, Run, gives, stops, bind, Activation, Entries, Calls, with_window, moved, halted, first_fault, checked_at, done_by, done_at, in_state, symbol_of, sig_of, without_memory, with_given, words_of_call, performed, entered, onto, edge_place, is_taken, left_by, fresh, fitted_run, entry_id, begun_in, begun, begun_at, called, panic_divide, panic_shift, in_block, in_func, at_count, one_entry, run}
+use Rattle.bk_func.specs.Effects.{Effect, store, zeros, move, panic_bounds, call, call_words, out_word, ret_word, ret_words, trap, pass, effect_of, order, chain_from}
+use Rattle.bk_func.specs.Meaning.{Outcome, trapped, going, World, Run, gives, stops, bind, Activation, Entries, Calls, with_window, moved, halted, first_fault, checked_at, done_by, done_at, in_state, without_memory, with_given, words_sent, performed, entered, onto, edge_place, is_taken, left_by, fresh, entry_id, begun_in, begun, begun_at, called, in_block, in_func, at_count, one_entry, run}
 
 -- at most n blocks may be entered after it
 abbrev pub Falls : {A : Type 0} → Run A → ℕ → Type 0
@@ -77,13 +77,13 @@ done_by_falls (Some call) calls h p m v a w =
     bind_falls (calls (symbol_of v.aux) (map m (without_memory v.args)) a.stack w) (λ results w. gives (with_given a v.id results) w) w.left
     (h (symbol_of v.aux) (map m (without_memory v.args)) a.stack w) (λ x u l. l)
 done_by_falls (Some call_words) calls h p m v a w =
-    let g = sig_of p.pkg (symbol_of v.aux) in
-    let args = numbers_at p.target g.args a.out 0 in
+    let args = words_sent p (sig_of p.pkg (symbol_of v.aux)) (map m (without_memory v.args)) a.out in
     bind_falls (calls (symbol_of v.aux) args a.stack w)
-    (λ results w. gives (record (with_given a v.id (words_of_call p.target g args results)) { out = λ k. 0 }) w) w.left
+    (λ results w. gives (record (with_given a v.id results) { out = λ k. 0 }) w) w.left
     (h (symbol_of v.aux) args a.stack w) (λ x u l. l)
 done_by_falls (Some out_word) calls h p m v a w = omega arith
 done_by_falls (Some ret_word) calls h p m v a w = omega arith
+done_by_falls (Some ret_words) calls h p m v a w = omega arith
 done_by_falls (Some trap) calls h p m v a w = tt
 done_by_falls (Some pass) calls h p m v a w = omega arith
 
@@ -116,9 +116,8 @@ begun_falls enter h p i args stack w = go (slice_get p.pkg.funcs i)
     go : (o : Option FuncRecord) → Falls (begun_in o enter p i args stack w) w.left
     go None = tt
     go (Some f) =
-        let start = fresh (fitted p.target f.sig.args args) (stack - slice_index p.frames i) in
-        if_falls (nat_lt stack (slice_index p.frames i)) (stops (trapped 5) w.window) (fitted_run p.target f.sig.results (enter i start (entry_id f.blocks) 0 w)) w.left tt
-        (bind_falls (enter i start (entry_id f.blocks) 0 w) (λ results w. gives (fitted p.target f.sig.results results) w) w.left (h i start (entry_id f.blocks) 0 w) (λ x u l. l))
+        let start = fresh args (stack - slice_index p.frames i) in
+        if_falls (nat_lt stack (slice_index p.frames i)) (stops (trapped 5) w.window) (enter i start (entry_id f.blocks) 0 w) w.left tt (h i start (entry_id f.blocks) 0 w)
 
 pub called_falls : (enter : Entries) → EntriesFall enter → (p : Program) → CallsFall (called enter p)
 called_falls enter h p s args stack w =
@@ -167,11 +166,11 @@ done_by_agree (Some panic_bounds) n calls other h k p m v a w l = refl
 done_by_agree (Some call) n calls other h k p m v a w l =
     ap (λ (r : Run (List ℕ)). bind r (λ results w. gives (with_given a v.id results) w)) (k (symbol_of v.aux) (map m (without_memory v.args)) a.stack w l)
 done_by_agree (Some call_words) n calls other h k p m v a w l =
-    let g = sig_of p.pkg (symbol_of v.aux) in
-    let args = numbers_at p.target g.args a.out 0 in
-    ap (λ (r : Run (List ℕ)). bind r (λ results w. gives (record (with_given a v.id (words_of_call p.target g args results)) { out = λ k. 0 }) w)) (k (symbol_of v.aux) args a.stack w l)
+    let args = words_sent p (sig_of p.pkg (symbol_of v.aux)) (map m (without_memory v.args)) a.out in
+    ap (λ (r : Run (List ℕ)). bind r (λ results w. gives (record (with_given a v.id results) { out = λ k. 0 }) w)) (k (symbol_of v.aux) args a.stack w l)
 done_by_agree (Some out_word) n calls other h k p m v a w l = refl
 done_by_agree (Some ret_word) n calls other h k p m v a w l = refl
+done_by_agree (Some ret_words) n calls other h k p m v a w l = refl
 done_by_agree (Some trap) n calls other h k p m v a w l = refl
 done_by_agree (Some pass) n calls other h k p m v a w l = refl
 
@@ -209,8 +208,8 @@ begun_agree n enter other h p i args stack w l = go (slice_get p.pkg.funcs i)
     go : (o : Option FuncRecord) → begun_in o enter p i args stack w ≡ begun_in o other p i args stack w
     go None = refl
     go (Some f) =
-        let start = fresh (fitted p.target f.sig.args args) (stack - slice_index p.frames i) in
-        ap (λ (r : Run (List ℕ)). if nat_lt stack (slice_index p.frames i) then stops (trapped 5) w.window else fitted_run p.target f.sig.results r) (h i start (entry_id f.blocks) 0 w l)
+        let start = fresh args (stack - slice_index p.frames i) in
+        ap (λ (r : Run (List ℕ)). if nat_lt stack (slice_index p.frames i) then stops (trapped 5) w.window else r) (h i start (entry_id f.blocks) 0 w l)
 
 called_agree : (n : ℕ) (enter other : Entries) → AgreeBelow n enter other → (p : Program) → CallsAgree n (called enter p) (called other p)
 called_agree n enter other h p s args stack w l =

@@ -5,21 +5,21 @@ use Rattle.std.specs.List.{AllZip}
 use Rattle.std.proofs.Math.Path.{fun_ext}
 use Rattle.std.proofs.lemmas.List.Sums.{length-filter}
 use Rattle.bk_ops.specs.declared.types.Target.{Target}
-use Rattle.bk_ops.specs.declared.types.Ty.{Ty}
 use Rattle.bk_func.specs.declared.parts.Kind.{Kind}
 use Rattle.bk_func.specs.declared.parts.Kind.TheVariants.{Plain, If, First, Ret, Exit}
 use Rattle.bk_func.specs.Records.{ValueRecord, BlockRecord, FuncRecord}
 use Rattle.bk_func.specs.Edits.{block_of}
-use Rattle.bk_func.specs.Words.{fitted, numbers_at}
+use Rattle.bk_func.specs.Symbols.{panic_divide, panic_shift, symbol_of, sig_of}
 use Rattle.bk_func.specs.Numbers.{Program, Origin, phi, argument, argument_word, result, address, loaded, checked, same, computed, origin_of, state_of, numbers, room, value_in}
-use Rattle.bk_func.specs.Effects.{Effect, store, zeros, move, panic_bounds, call, call_words, out_word, ret_word, trap, pass, effect_of, has_effect, is_check, is_load, is_at, checks_at, loads_at, next_at, onward, chain, chain_from, needs, order}
-use Rattle.bk_func.specs.Meaning.{trapped, World, Run, gives, stops, bind, Activation, Entries, Calls, symbol_of, with_given, words_of_call, fault_at, fault_by, first_fault, checked_at, done_by, done_at, in_state, without_memory, sig_of, performed, first_state, phi_by, entered, edge_place, onto, results_by, value_named, is_taken, left_by, fresh, fitted_run, entry_id, begun_in, begun, begun_at, called, panic_divide, panic_shift, in_block, in_func, at_count, one_entry, run}
+use Rattle.bk_func.specs.Effects.{Effect, store, zeros, move, panic_bounds, call, call_words, out_word, ret_word, ret_words, trap, pass, effect_of, has_effect, is_check, is_load, is_at, checks_at, loads_at, next_at, onward, chain, chain_from, needs, order}
+use Rattle.bk_func.specs.Meaning.{trapped, World, Run, gives, stops, bind, Activation, Entries, Calls, with_given, words_sent, fault_at, fault_by, first_fault, checked_at, done_by, done_at, in_state, without_memory, performed, first_state, phi_by, entered, edge_place, onto, results_by, value_named, is_taken, left_by, fresh, entry_id, begun_in, begun, begun_at, called, in_block, in_func, at_count, one_entry, run}
 use Rattle.bk_func.proofs.Runs.{Keeps, keeps_bind, Same, Points, EntriesKept, run_kept}
 use Rattle.bk_func.proofs.Faults.{In, in-filter, Mild, IsClosed, order_mild, halted_kept}
 
 -- programs that call alike
 pub record Alike (p q : Program) : Type 0 where
   pub target : p.target ≡ q.target
+  pub places_of : p.places ≡ q.places
   pub frames : p.frames ≡ q.frames
   pub sigs : (s : ℕ) → sig_of p.pkg s ≡ sig_of q.pkg s
   pub places : (s : ℕ) → position (λ g. g.name == s) p.pkg.funcs ≡ position (λ g. g.name == s) q.pkg.funcs
@@ -67,17 +67,18 @@ done_by_kept (Some call) p q z calls calls' k m n v xs h a w =
     (λ x y w e. inr (ap (with_given a v.id) e, refl))
 done_by_kept (Some call_words) p q z calls calls' k m n v xs h a w =
     let s = symbol_of v.aux in
-    let args = numbers_at q.target (sig_of q.pkg s).args a.out 0 in
-    rw (z.sigs s, z.target)
+    let args = words_sent q (sig_of q.pkg s) (map n (without_memory xs)) a.out in
+    rw (z.sigs s, z.places_of, h.given)
     (keeps_bind Same Equal (calls s args a.stack w) (calls' s args a.stack w)
-    (λ results w. gives (record (with_given a v.id (words_of_call q.target (sig_of q.pkg s) args results)) { out = λ k. 0 }) w)
-    (λ results w. gives (record (with_given a v.id (words_of_call q.target (sig_of q.pkg s) args results)) { out = λ k. 0 }) w)
+    (λ results w. gives (record (with_given a v.id results) { out = λ k. 0 }) w) (λ results w. gives (record (with_given a v.id results) { out = λ k. 0 }) w)
     (k s args a.stack w)
-    (λ x y w e. inr (ap (λ (r : List ℕ). record (with_given a v.id (words_of_call q.target (sig_of q.pkg s) args r)) { out = λ k. 0 }) e, refl)))
+    (λ x y w e. inr (ap (λ (r : List ℕ). record (with_given a v.id r) { out = λ k. 0 }) e, refl)))
 done_by_kept (Some out_word) p q z calls calls' k m n v xs h a w =
     keeps_eq (done_by (Some out_word) calls p m v a w) (done_by (Some out_word) calls' q n (record v { args = xs }) a w) (rw (h.each 0) refl)
 done_by_kept (Some ret_word) p q z calls calls' k m n v xs h a w =
     keeps_eq (done_by (Some ret_word) calls p m v a w) (done_by (Some ret_word) calls' q n (record v { args = xs }) a w) (rw (h.each 0) refl)
+done_by_kept (Some ret_words) p q z calls calls' k m n v xs h a w =
+    keeps_eq (done_by (Some ret_words) calls p m v a w) (done_by (Some ret_words) calls' q n (record v { args = xs }) a w) (rw h.given refl)
 done_by_kept (Some trap) p q z calls calls' k m n v xs h a w = inr (refl, refl)
 done_by_kept (Some pass) p q z calls calls' k m n v xs h a w = inr (refl, refl)
 
@@ -216,7 +217,7 @@ chains_kept p q f g I b c h s =
 abbrev Sound : (Activation → Type 0) → Activation → Activation → Type 0
 Sound I a b = (a ≡ b) × I a
 
-abbrev Gives : {A : Type 0} → Run A → A → World → Type 0
+abbrev pub Gives : {A : Type 0} → Run A → A → World → Type 0
 Gives (gives a w) b v = (a ≡ b) × (w ≡ v)
 Gives (stops o d) b v = ⊥
 
@@ -229,7 +230,7 @@ with_sound I (stops o d) (gives b v) (inr h) k = elim h [ ]
 with_sound I (stops o d) (stops u c) (inr e) k = inr e
 
 -- what a value does keeps I
-abbrev Does : Calls → Program → FuncRecord → BlockRecord → (Activation → Type 0) → Type 0
+abbrev pub Does : Calls → Program → FuncRecord → BlockRecord → (Activation → Type 0) → Type 0
 Does calls p f b I = (v : ValueRecord) → In v b.values → (a c : Activation) (w x : World) → I a → Gives (done_at calls p f v a w) c x → I c
 
 done_kept : (p q : Program) → Alike p q → (f g : FuncRecord) (b : BlockRecord) (I : Activation → Type 0) (calls calls' : Calls) → CallsKept calls calls' → Does calls p f b I →
@@ -243,7 +244,7 @@ done_kept p q z f g b I calls calls' k does v v' h a w i =
     (λ x y u e. inr (ap (λ (r : Activation). in_state v.id r u) e, refl)))))
     (λ c x e. does v h.stands a c w x i e)
 
-fault_same : (o : Origin) (t : Target) (m n : ℕ → ℕ) (d : List ℕ) (v : ValueRecord) (xs : List ℕ) → m (slice_index v.args 0) ≡ n (slice_index xs 0) →
+pub fault_same : (o : Origin) (t : Target) (m n : ℕ → ℕ) (d : List ℕ) (v : ValueRecord) (xs : List ℕ) → m (slice_index v.args 0) ≡ n (slice_index xs 0) →
     fault_by o t m d v ≡ fault_by o t n d (record v { args = xs })
 fault_same phi t m n d v xs e = refl
 fault_same argument t m n d v xs e = refl
@@ -337,7 +338,7 @@ pub record FuncKept (p q : Program) (r : Along) (i : ℕ) (f g : FuncRecord) : T
   pub entry_here : r.here i (entry_id f.blocks)
   pub entry_edge : r.edge i (entry_id f.blocks) 0
   pub blocks : (id : ℕ) → r.here i id → BothBlocks (BlockKept p q f g (r.sound i) (r.edge i id)) (block_of f id) (block_of g id)
-  pub begins : (args : List ℕ) (stack : ℕ) → r.sound i (fresh (fitted p.target f.sig.args args) stack)
+  pub begins : (args : List ℕ) (stack : ℕ) → r.sound i (fresh args stack)
   pub enters : (a : Activation) (w : World) (id place : ℕ) (b : BlockRecord) → block_of f id ≡ Some b → r.here i id → r.edge i id place → r.sound i a → r.sound i (entered p f b place a w)
   pub does : (enter : Entries) (id : ℕ) (b : BlockRecord) → block_of f id ≡ Some b → r.here i id → Does (called enter p) p f b (r.sound i)
   pub onward : (id index : ℕ) (b : BlockRecord) → block_of f id ≡ Some b → r.here i id → Leaves b.kind index →
@@ -364,9 +365,6 @@ PointsKept r enter enter' = (i : ℕ) (a : Activation) (id place : ℕ) (w : Wor
 
 -- calls
 
-same_results : (t : Target) (g : List Ty) (x y : Run (List ℕ)) → Keeps Same x y → Keeps Same (fitted_run t g x) (fitted_run t g y)
-same_results t g x y h = keeps_bind Same Same x y (λ results w. gives (fitted t g results) w) (λ results w. gives (fitted t g results) w) h (λ a b w e. inr (ap (fitted t g) e, refl))
-
 begun_kept : (p q : Program) (r : Along) → ProgramKept p q r → (enter enter' : Entries) → PointsKept r enter enter' → (i : ℕ) (args : List ℕ) (stack : ℕ) (w : World) →
     Keeps Same (begun enter p i args stack w) (begun enter' q i args stack w)
 begun_kept p q r z enter enter' k i args stack w = go (slice_get p.pkg.funcs i) (slice_get q.pkg.funcs i) (z.funcs i)
@@ -376,15 +374,14 @@ begun_kept p q r z enter enter' k i args stack w = go (slice_get p.pkg.funcs i) 
     go None (Some g) h = elim h [ ]
     go (Some f) None h = elim h [ ]
     go (Some f) (Some g) h =
-        let start = fresh (fitted p.target f.sig.args args) (stack - slice_index p.frames i) in
+        let start = fresh args (stack - slice_index p.frames i) in
         let P : Bool → Type 0 = λ b. Keeps Same
-        (if b then stops (trapped 5) w.window else fitted_run p.target f.sig.results (enter i start (entry_id f.blocks) 0 w))
-        (if b then stops (trapped 5) w.window else fitted_run p.target f.sig.results (enter' i start (entry_id f.blocks) 0 w)) in
-        rw (← z.alike.frames, ← z.alike.target, ← h.sig, ← h.entry)
+        (if b then stops (trapped 5) w.window else enter i start (entry_id f.blocks) 0 w)
+        (if b then stops (trapped 5) w.window else enter' i start (entry_id f.blocks) 0 w) in
+        rw (← z.alike.frames, ← h.entry)
         (elim (nat_lt stack (slice_index p.frames i)) as P [
           | true ↦ inr (refl, refl)
-          | false ↦ same_results p.target f.sig.results (enter i start (entry_id f.blocks) 0 w) (enter' i start (entry_id f.blocks) 0 w)
-              (k i start (entry_id f.blocks) 0 w (h.begins args (stack - slice_index p.frames i)) h.entry_here h.entry_edge)
+          | false ↦ k i start (entry_id f.blocks) 0 w (h.begins args (stack - slice_index p.frames i)) h.entry_here h.entry_edge
         ])
 
 called_kept : (p q : Program) (r : Along) → ProgramKept p q r → (enter enter' : Entries) → PointsKept r enter enter' → CallsKept (called enter p) (called enter' q)

@@ -56,7 +56,7 @@ pub record BlockRanked (f : FuncRecord) (b : BlockRecord) (r : ℕ → ℕ) : Ty
   pub few : (v : ValueRecord) → In v b.values → r v.id < room f
 
 -- a value needs a number, by an argument that is the number, or by one in the block that needs it
-needs_by : (k : ℕ) (b : BlockRecord) (v : ValueRecord) (n : ℕ) → needs (suc k) b (Some v) n ≡ true →
+pub needs_by : (k : ℕ) (b : BlockRecord) (v : ValueRecord) (n : ℕ) → needs (suc k) b (Some v) n ≡ true →
     (is_phi (origin_of v.op.family) ≡ false) × ((a : ℕ) × In a v.args × ((a ≡ n) ⊎ ((u : ValueRecord) × (value_in b.values a ≡ Some u) × (needs k b (Some u) n ≡ true))))
 unfolding needs
 needs_by k b v n e =
@@ -80,12 +80,12 @@ needs_by k b v n e =
     way a (inl h) = inl (eqb-true a n h)
     way a (inr h) = inner a (value_in b.values a) refl h
 
-by_argument : (k : ℕ) (b : BlockRecord) (v : ValueRecord) (n a : ℕ) → is_phi (origin_of v.op.family) ≡ false → In a v.args → a ≡ n → needs (suc k) b (Some v) n ≡ true
+pub by_argument : (k : ℕ) (b : BlockRecord) (v : ValueRecord) (n a : ℕ) → is_phi (origin_of v.op.family) ≡ false → In a v.args → a ≡ n → needs (suc k) b (Some v) n ≡ true
 unfolding needs
 by_argument k b v n a h i e =
     rw h (in_any (λ a. a == n || needs k b (value_in b.values a) n) v.args a i (or_left (a == n) (needs k b (value_in b.values a) n) (eq-eqb a n e)))
 
-by_need : (k : ℕ) (b : BlockRecord) (v u : ValueRecord) (n a : ℕ) → is_phi (origin_of v.op.family) ≡ false → In a v.args → value_in b.values a ≡ Some u → needs k b (Some u) n ≡ true →
+pub by_need : (k : ℕ) (b : BlockRecord) (v u : ValueRecord) (n a : ℕ) → is_phi (origin_of v.op.family) ≡ false → In a v.args → value_in b.values a ≡ Some u → needs k b (Some u) n ≡ true →
     needs (suc k) b (Some v) n ≡ true
 unfolding needs
 by_need k b v u n a h i e w =

@@ -1,5 +1,5 @@
 -- The edits of a function, and what they need.
-use Rattle.std.specs.Prelude.{◌≡◌, ℕ, ℤ, ◌+◌, ◌-◌, ◌<◌, ◌==◌, Bool, if◌then◌else◌, List, [], ◌∷◌, ◌++◌, length, take, map, max, fold, sum_by, count_by, position, Option, Some, None, IsSome, IfSome, slice_index, slice_set}
+use Rattle.std.specs.Prelude.{ℕ, ℤ, ◌+◌, ◌-◌, ◌<◌, ◌==◌, if◌then◌else◌, List, [], ◌∷◌, ◌++◌, length, take, map, max, fold, sum_by, count_by, position, Option, Some, None, IsSome, IfSome, slice_index, slice_set}
 use Rattle.std.specs.List.{find}
 use Rattle.bk_ops.specs.declared.table.Op.{Op}
 use Rattle.bk_ops.specs.declared.types.Ty.{Ty}

@@ -19,6 +19,7 @@ pub data Effect : Type 0 where
   call_words : Effect
   out_word : Effect
   ret_word : Effect
+  ret_words : Effect
   trap : Effect
   pass : Effect
 
@@ -38,8 +39,10 @@ effect_of (op.Rv rv.Move) ty = Some move
 effect_of op.PanicBounds ty = Some panic_bounds
 effect_of op.StaticLECall ty = Some call
 effect_of op.Call ty = Some call_words
+effect_of op.CallRegs ty = Some call_words
 effect_of op.OutWord ty = Some out_word
 effect_of op.RetWord ty = Some ret_word
+effect_of op.RetRegs ty = Some ret_words
 effect_of op.Trap ty = Some trap
 effect_of op.SelectN ty = if is_mem ty then Some pass else None
 effect_of _ ty = None

@@ -3,8 +3,11 @@ pub mod Construct
 pub mod Edits
 pub mod Effects
 pub mod Form
+pub mod Limits
 pub mod Meaning
 pub mod Numbers
 pub mod Records
 pub mod Steps
+pub mod Symbols
+pub mod Traps
 pub mod Words

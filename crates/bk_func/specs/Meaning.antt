@@ -1,8 +1,10 @@
 -- What a function does: results, a trap, an access outside the data window, or more blocks than a bound allows.
 --
--- A call is a function of its arguments' numbers, the stack left, the data window and the count of blocks that may still be
--- entered; it gives results, and what is then left of the last two, or the run stops in it.
-use Rattle.std.specs.Prelude.{ℕ, zero, suc, ◌-◌, ◌%◌, ◌^◌, ◌==◌, nat_lt, Bool, true, false, not, if◌then◌else◌, List, [], ◌∷◌, ◌++◌, length, map, take, find, position, slice_get, slice_index, Option, Some, None}
+-- A call is a function of the numbers in its arguments' places, the stack left, the data window and the count of blocks that
+-- may still be entered; it gives the numbers in the places of its results, and what is then left of the last two, or the run
+-- stops in it. What is handed on is whole: numbers are cut to their types where values of the function take them, and at the
+-- results of the run.
+use Rattle.std.specs.Prelude.{ℕ, zero, suc, ◌+◌, ◌-◌, ◌%◌, ◌^◌, ◌==◌, nat_lt, Bool, true, false, not, if◌then◌else◌, List, [], ◌∷◌, ◌++◌, length, map, take, find, position, slice_get, slice_index, Option, Some, None}
 use Rattle.bk_num.specs.Bytes.{is_within}
 use Rattle.bk_num.specs.Memory.{data_base}
 use Rattle.bk_ops.specs.Memory.{number_at, with_number, with_zeros, do_overlap}
@@ -18,11 +20,13 @@ use Rattle.bk_func.specs.declared.parts.Aux.{Aux}
 use Rattle.bk_func.specs.declared.parts.Aux.TheVariants as beside
 use Rattle.bk_func.specs.declared.parts.Kind.{Kind}
 use Rattle.bk_func.specs.declared.parts.Kind.TheVariants.{Plain, If, First, Ret, Exit}
-use Rattle.bk_func.specs.Records.{ValueRecord, BlockRecord, FuncRecord, SigRecord, PackageRecord}
+use Rattle.bk_func.specs.Records.{ValueRecord, BlockRecord, FuncRecord, SigRecord}
 use Rattle.bk_func.specs.Edits.{block_of, nth_place, rank_in}
-use Rattle.bk_func.specs.Words.{all_words, numbers_at, count_words, fitted}
+use Rattle.bk_func.specs.Symbols.{panic_divide, panic_shift, symbol_of, sig_of_some, sig_of}
+use Rattle.bk_func.specs.Traps.{trap_nil, trap_bounds, trap_divide, trap_shift, trap_stack, trap_exit}
+use Rattle.bk_func.specs.Words.{words_at, fitted}
 use Rattle.bk_func.specs.Numbers.{Program, Env, Origin, phi, loaded, checked, origin_of, value_in, value_of, natural, is_mem, is_truth, address_by, load_size, numbers}
-use Rattle.bk_func.specs.Effects.{Effect, store, zeros, move, panic_bounds, call, call_words, out_word, ret_word, trap, pass, effect_of, chain_from, order}
+use Rattle.bk_func.specs.Effects.{Effect, store, zeros, move, panic_bounds, call, call_words, out_word, ret_word, ret_words, trap, pass, effect_of, chain_from, order}
 
 -- how a run ends
 pub data Outcome : Type 0 where
@@ -45,13 +49,15 @@ abbrev pub bind : {A B : Type 0} → Run A → (A → World → Run B) → Run B
 bind (gives a w) go = go a w
 bind (stops o d) go = stops o d
 
--- a call that is under way: what its values stand on, the state of memory, the words for its next call by their places, the
--- words that it was given and gives back, and the stack left to the calls in it
+-- a call that is under way: what its values stand on, the state of memory, the words for its next call and the words that
+-- it gives back, both by their places among the words of a signature, the first words that it gives back, in registers, and
+-- the stack left to the calls in it
 pub record Activation : Type 0 where
   pub env : Env
   pub memory : ℕ
   pub out : ℕ → ℕ
   pub back : ℕ → ℕ
+  pub regs : List ℕ
   pub stack : ℕ
 
 -- a function by number with one value changed
@@ -71,7 +77,7 @@ Calls = ℕ → List ℕ → ℕ → World → Run (List ℕ)
 
 -- how a check or a load ends the run: at a nil pointer, or outside the data window
 abbrev pub fault_by : Origin → Target → (ℕ → ℕ) → List ℕ → ValueRecord → Option Outcome
-fault_by checked t m window v = if m (slice_index v.args 0) % 2 ^ word_width t == 0 then Some (trapped 1) else None
+fault_by checked t m window v = if m (slice_index v.args 0) % 2 ^ word_width t == 0 then Some (trapped trap_nil) else None
 fault_by loaded t m window v =
     if is_within data_base window (load_size t v.ty v.op v.op.family) (address_by t v m) then None else Some (wild (address_by t v m))
 fault_by _ t m window v = None
@@ -126,18 +132,6 @@ moved None n to from a w = stops (wild from) w.window
 moved (Some bytes) n to from a w =
     if do_overlap n to from then stops (wild to) w.window else with_window (with_number w.window n to bytes) to a w
 
-abbrev pub symbol_of : Aux → ℕ
-symbol_of (beside.Sym s) = s
-symbol_of _ = 0
-
-abbrev pub sig_of_some : Option FuncRecord → SigRecord
-sig_of_some None = record { args = []; results = [] }
-sig_of_some (Some g) = g.sig
-
--- the signature of the function with this name
-abbrev pub sig_of : PackageRecord → ℕ → SigRecord
-sig_of p s = sig_of_some (find (λ g. g.name == s) p.funcs)
-
 -- the arguments of a call without memory, which is the last
 abbrev pub without_memory : List ℕ → List ℕ
 without_memory args = take (length args - 1) args
@@ -145,9 +139,9 @@ without_memory args = take (length args - 1) args
 abbrev pub with_given : Activation → ℕ → List ℕ → Activation
 with_given a id xs = record a { env = record a.env { given = put a.env.given id xs } }
 
--- the words of a call's arguments and results
-abbrev pub words_of_call : Target → SigRecord → List ℕ → List ℕ → List ℕ
-words_of_call t g args results = all_words t g.args (fitted t g.args args) ++ all_words t g.results results
+-- the words of a call: the first ones in registers, which the call has as arguments, the others as they were put
+abbrev pub words_sent : Program → SigRecord → List ℕ → (ℕ → ℕ) → List ℕ
+words_sent p g regs out = regs ++ words_at out (length regs) (length (p.places g.args) - length regs)
 
 abbrev pub done_by : Option Effect → Calls → Program → (ℕ → ℕ) → ValueRecord → Activation → World → Run Activation
 done_by (Some store) calls p m v a w =
@@ -160,16 +154,15 @@ done_by (Some move) calls p m v a w =
     let to = m (slice_index v.args 0) % 2 ^ word_width p.target in
     let from = m (slice_index v.args 1) % 2 ^ word_width p.target in
     if natural v.int == 0 then gives a w else moved (number_at w.window (natural v.int) from) (natural v.int) to from a w
-done_by (Some panic_bounds) calls p m v a w = stops (trapped 2) w.window
+done_by (Some panic_bounds) calls p m v a w = stops (trapped trap_bounds) w.window
 done_by (Some call) calls p m v a w =
     bind (calls (symbol_of v.aux) (map m (without_memory v.args)) a.stack w) (λ results w. gives (with_given a v.id results) w)
 done_by (Some call_words) calls p m v a w =
-    let g = sig_of p.pkg (symbol_of v.aux) in
-    let args = numbers_at p.target g.args a.out 0 in
-    bind (calls (symbol_of v.aux) args a.stack w)
-    (λ results w. gives (record (with_given a v.id (words_of_call p.target g args results)) { out = λ k. 0 }) w)
+    bind (calls (symbol_of v.aux) (words_sent p (sig_of p.pkg (symbol_of v.aux)) (map m (without_memory v.args)) a.out) a.stack w)
+    (λ results w. gives (record (with_given a v.id results) { out = λ k. 0 }) w)
 done_by (Some out_word) calls p m v a w = gives (record a { out = put a.out (natural v.int) (m (slice_index v.args 0)) }) w
 done_by (Some ret_word) calls p m v a w = gives (record a { back = put a.back (natural v.int) (m (slice_index v.args 0)) }) w
+done_by (Some ret_words) calls p m v a w = gives (record a { regs = map m (without_memory v.args) }) w
 done_by (Some trap) calls p m v a w = stops (trapped (natural v.int)) w.window
 done_by (Some pass) calls p m v a w = gives a w
 done_by None calls p m v a w = gives a w
@@ -232,17 +225,20 @@ abbrev pub onto : Entries → ℕ → FuncRecord → BlockRecord → ℕ → Act
 onto enter i f b index a w =
     enter i a (slice_index b.succs index) (edge_place b index (block_of f (slice_index b.succs index))) w
 
--- the results of a function whose control is given: the numbers of the control's arguments, or what the words given back spell
+-- the results of a function whose control is given: the numbers of the control's arguments, or the words given back
 abbrev pub is_make_result : Family → Bool
 is_make_result op.MakeResult = true
 is_make_result _ = false
 
+abbrev pub words_back : Program → FuncRecord → Activation → List ℕ
+words_back p f a =
+    a.regs
+    ++ words_at a.back (length (p.places f.sig.args) + length a.regs) (length (p.places f.sig.results) - length a.regs)
+
 abbrev pub results_by : Option ValueRecord → Program → FuncRecord → Activation → List ℕ
-results_by None p f a = numbers_at p.target f.sig.results a.back (count_words p.target f.sig.args)
+results_by None p f a = words_back p f a
 results_by (Some v) p f a =
-    if is_make_result v.op.family
-    then map (numbers p f a.env) (without_memory v.args)
-    else numbers_at p.target f.sig.results a.back (count_words p.target f.sig.args)
+    if is_make_result v.op.family then map (numbers p f a.env) (without_memory v.args) else words_back p f a
 
 abbrev pub value_named : FuncRecord → Option ℕ → Option ValueRecord
 value_named f None = None
@@ -257,7 +253,7 @@ left_by Plain enter p i f b a w = onto enter i f b 0 a w
 left_by First enter p i f b a w = onto enter i f b 0 a w
 left_by If enter p i f b a w = if is_taken p f a b.control then onto enter i f b 0 a w else onto enter i f b 1 a w
 left_by Ret enter p i f b a w = gives (results_by (value_named f b.control) p f a) w
-left_by Exit enter p i f b a w = stops (trapped 6) w.window
+left_by Exit enter p i f b a w = stops (trapped trap_exit) w.window
 
 -- calls
 
@@ -271,11 +267,9 @@ fresh args stack = record {
   memory = 0;
   out = λ k. 0;
   back = λ k. 0;
+  regs = [];
   stack = stack;
 }
-
-abbrev pub fitted_run : Target → List Ty → Run (List ℕ) → Run (List ℕ)
-fitted_run t tys r = bind r (λ results w. gives (fitted t tys results) w)
 
 abbrev pub entry_id : List BlockRecord → ℕ
 entry_id [] = 0
@@ -283,43 +277,36 @@ entry_id (b ∷ bs) = b.id
 
 -- a call traps where its frame exceeds the stack left, before a block is entered
 abbrev pub begun_in : Option FuncRecord → Entries → Program → Begun
-begun_in None enter p i args stack w = stops (trapped 6) w.window
+begun_in None enter p i args stack w = stops (trapped trap_exit) w.window
 begun_in (Some f) enter p i args stack w =
     if nat_lt stack (slice_index p.frames i)
-    then stops (trapped 5) w.window
-    else fitted_run p.target f.sig.results (enter i (fresh (fitted p.target f.sig.args args) (stack - slice_index p.frames i)) (entry_id f.blocks) 0 w)
+    then stops (trapped trap_stack) w.window
+    else enter i (fresh args (stack - slice_index p.frames i)) (entry_id f.blocks) 0 w
 
 abbrev pub begun : Entries → Program → Begun
 begun enter p i args stack w = begun_in (slice_get p.pkg.funcs i) enter p i args stack w
 
--- the two functions of the run-time system that may be called: for a divisor and for a shift count that no program may have
-abbrev pub panic_divide : ℕ
-panic_divide = 4294967294
-
-abbrev pub panic_shift : ℕ
-panic_shift = 4294967295
-
 abbrev pub begun_at : Option ℕ → Begun → List ℕ → ℕ → World → Run (List ℕ)
-begun_at None begin args stack w = stops (trapped 6) w.window
+begun_at None begin args stack w = stops (trapped trap_exit) w.window
 begun_at (Some i) begin args stack w = begin i args stack w
 
 abbrev pub called : Entries → Program → Calls
 called enter p s args stack w =
     if s == panic_divide
-    then stops (trapped 3) w.window
-    else (if s == panic_shift then stops (trapped 4) w.window else begun_at (position (λ g. g.name == s) p.pkg.funcs) (begun enter p) args stack w)
+    then stops (trapped trap_divide) w.window
+    else (if s == panic_shift then stops (trapped trap_shift) w.window else begun_at (position (λ g. g.name == s) p.pkg.funcs) (begun enter p) args stack w)
 
 -- runs
 
 -- a block from its entry on
 abbrev pub in_block : Option BlockRecord → Entries → Program → ℕ → FuncRecord → Activation → ℕ → World → Run (List ℕ)
-in_block None enter p i f a place w = stops (trapped 6) w.window
+in_block None enter p i f a place w = stops (trapped trap_exit) w.window
 in_block (Some b) enter p i f a place w =
     let a = entered p f b place a w in
     bind (performed (called enter p) p f b (chain_from f b a.memory) a w) (left_by b.kind enter p i f b)
 
 abbrev pub in_func : Option FuncRecord → Entries → Program → Entries
-in_func None enter p i a id place w = stops (trapped 6) w.window
+in_func None enter p i a id place w = stops (trapped trap_exit) w.window
 in_func (Some f) enter p i a id place w = in_block (block_of f id) enter p i f a place w
 
 abbrev pub at_count : ℕ → World → (World → Run (List ℕ)) → Run (List ℕ)
@@ -339,7 +326,14 @@ abbrev pub ended : Run (List ℕ) → Outcome × List ℕ
 ended (gives results w) = (returned results, w.window)
 ended (stops o d) = (o, d)
 
+-- the numbers in the places of these types, each cut to its type
+abbrev pub fitted_run : Program → List Ty → Run (List ℕ) → Run (List ℕ)
+fitted_run p tys r = bind r (λ results w. gives (fitted p.target (p.places tys) results) w)
+
 -- the outcome and the data window of the function at a place of the package, on numbers, with the bytes of a data window
 -- and of the stack left, and the count of blocks that may be entered
 abbrev pub meaning : Program → ℕ → List ℕ → List ℕ → ℕ → ℕ → Outcome × List ℕ
-meaning p i args window stack n = ended (begun (run n p) p i args stack (record { window = window; left = n }))
+meaning p i args window stack n =
+    let sig = sig_of_some (slice_get p.pkg.funcs i) in
+    ended
+    (fitted_run p sig.results (begun (run n p) p i (fitted p.target (p.places sig.args) args) stack (record { window = window; left = n })))

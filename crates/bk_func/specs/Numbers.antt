@@ -2,12 +2,12 @@
 --
 -- Arguments, phis and the results of calls have their numbers from outside, and each state of memory has its data window.
 -- Every other value has a number that follows from these, by recursion on its arguments.
-use Rattle.std.specs.Prelude.{ℕ, zero, suc, ℤ, pos, negsuc, ◌+◌, ◌-◌, ◌%◌, ◌^◌, ◌==◌, Bool, true, false, ◌&&◌, if◌then◌else◌, List, [], ◌∷◌, length, map, flat_map, count_by, find, slice_get, slice_index, Option, Some, None, unwrap_or, option_map}
+use Rattle.std.specs.Prelude.{ℕ, zero, suc, ℤ, pos, negsuc, ◌+◌, ◌-◌, ◌%◌, ◌^◌, ◌==◌, Bool, true, false, ◌&&◌, if◌then◌else◌, List, [], ◌∷◌, length, map, flat_map, find, slice_get, slice_index, Option, Some, None, unwrap_or, option_map}
 use Rattle.std.specs.List.{last_or}
 use Rattle.bk_num.specs.Word.{signed, residue}
 use Rattle.bk_num.specs.Memory.{data_base}
 use Rattle.bk_ops.specs.Table.{info_of}
-use Rattle.bk_ops.specs.Types.{word_width, size_of_ty}
+use Rattle.bk_ops.specs.Types.{word_width, width_of, size_of_ty}
 use Rattle.bk_ops.specs.Memory.{number_at}
 use Rattle.bk_ops.specs.Values.{op_value}
 use Rattle.bk_ops.specs.declared.family.Family.{Family}
@@ -21,16 +21,18 @@ use Rattle.bk_ops.specs.declared.types.Ty.TheVariants.{Bool as Truth, Mem}
 use Rattle.bk_func.specs.declared.parts.Aux.{Aux}
 use Rattle.bk_func.specs.declared.parts.Aux.TheVariants as beside
 use Rattle.bk_func.specs.Records.{ValueRecord, FuncRecord, VarRecord, PackageRecord}
-use Rattle.bk_func.specs.Words.{all_words}
+use Rattle.bk_func.specs.Symbols.{symbol_of, sig_of}
 
--- what a run is of: a package, the machine, and the bytes of each function's frame
+-- what a run is of: a package, the machine, the places that the types of a signature take (one each, or one for each
+-- machine word), and the bytes of each function's frame
 pub record Program : Type 0 where
   pub pkg : PackageRecord
   pub target : Target
+  pub places : List Ty → List Ty
   pub frames : List ℕ
 
--- what the numbers of a call's values follow from: the numbers of its arguments, of phis by number of the phi, what each
--- call in it gave, and the data window at each state of memory, both by number of the value
+-- what the numbers of a call's values follow from: the numbers in the places of its arguments, of phis by number of the phi,
+-- the results of each call in it, and the data window at each state of memory, both by number of the value
 pub record Env : Type 0 where
   pub args : List ℕ
   pub phis : ℕ → ℕ
@@ -53,8 +55,10 @@ abbrev pub origin_of : Family → Origin
 origin_of op.Phi = phi
 origin_of op.Arg = argument
 origin_of op.ArgWord = argument_word
+origin_of op.ArgReg = argument_word
 origin_of op.SelectN = result
 origin_of op.ResWord = result
+origin_of op.ResReg = result
 origin_of op.Addr = address
 origin_of (op.Arm arm.Addr) = address
 origin_of (op.Rv rv.Addr) = address
@@ -158,12 +162,31 @@ abbrev pub place_of_arg : Aux → ℕ
 place_of_arg (beside.Arg k) = k
 place_of_arg _ = 0
 
+-- the function that the call names whose result the value is
+abbrev pub callee_of_some : Option ValueRecord → ℕ
+callee_of_some None = 0
+callee_of_some (Some c) = symbol_of c.aux
+
+abbrev pub callee_of : FuncRecord → ValueRecord → ℕ
+callee_of f v = callee_of_some (value_of f (slice_index v.args 0))
+
+-- which result of its call the value is: a word is counted from the first of the arguments on
+abbrev pub result_place : Family → Program → FuncRecord → ValueRecord → ℕ
+result_place op.ResWord p f v = natural v.int - length (p.places (sig_of p.pkg (callee_of f v)).args)
+result_place _ p f v = natural v.int
+
+-- a result is cut to its type; a word is passed whole
+abbrev pub cut_result : Family → Target → Ty → ℕ → ℕ
+cut_result op.SelectN t ty n = n % 2 ^ width_of ty t
+cut_result _ t ty n = n
+
 -- the number of a value, where m has those of its arguments
 abbrev pub number_by : Origin → Program → FuncRecord → Env → (ℕ → ℕ) → ValueRecord → ℕ
 number_by phi p f e m v = e.phis v.id
-number_by argument p f e m v = slice_index e.args (place_of_arg v.aux)
-number_by argument_word p f e m v = slice_index (all_words p.target f.sig.args e.args) (natural v.int)
-number_by result p f e m v = slice_index (e.given (slice_index v.args 0)) (natural v.int)
+number_by argument p f e m v = slice_index e.args (place_of_arg v.aux) % 2 ^ width_of v.ty p.target
+number_by argument_word p f e m v = slice_index e.args (natural v.int)
+number_by result p f e m v =
+    cut_result v.op.family p.target v.ty (slice_index (e.given (slice_index v.args 0)) (result_place v.op.family p f v))
 number_by address p f e m v = address_of p.pkg v.aux
 number_by loaded p f e m v =
     made_of v.op.family v.ty v.op.a (read_at p.target v (e.windows (unwrap_or (state_of f v) 0)) (address_by p.target v m))

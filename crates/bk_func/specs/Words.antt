@@ -1,7 +1,8 @@
 -- The machine words of arguments and results.
-use Rattle.std.specs.Prelude.{ℕ, ◌+◌, ◌*◌, ◌/◌, ◌%◌, ◌^◌, Bool, nat_lt, if◌then◌else◌, List, [], ◌∷◌, ◌++◌}
+use Rattle.std.specs.Prelude.{ℕ, zero, suc, ◌+◌, ◌/◌, ◌%◌, ◌^◌, Bool, nat_lt, if◌then◌else◌, List, [], ◌∷◌, ◌++◌}
 use Rattle.bk_ops.specs.Types.{word_width, width_of}
 use Rattle.bk_ops.specs.declared.types.Target.{Target}
+use Rattle.bk_ops.specs.declared.types.Target.TheVariants.{Arm, Riscv64}
 use Rattle.bk_ops.specs.declared.types.Ty.{Ty}
 
 -- a number of the type takes two words
@@ -18,15 +19,15 @@ all_words t [] ns = []
 all_words t (ty ∷ tys) [] = []
 all_words t (ty ∷ tys) (n ∷ ns) = words_of t ty n ++ all_words t tys ns
 
--- the number of the type that words from a place on spell
-abbrev pub number_at : Target → Ty → (ℕ → ℕ) → ℕ → ℕ
-number_at t ty word k =
-    if is_double t ty then word k % 2 ^ 32 + 2 ^ 32 * (word (k + 1) % 2 ^ 32) else word k % 2 ^ width_of ty t
+-- the words from a place on, as many as asked for
+abbrev pub words_at : (ℕ → ℕ) → ℕ → ℕ → List ℕ
+words_at word k zero = []
+words_at word k (suc n) = word k ∷ words_at word (suc k) n
 
--- the numbers of the types that words from a place on spell
-abbrev pub numbers_at : Target → List Ty → (ℕ → ℕ) → ℕ → List ℕ
-numbers_at t [] word k = []
-numbers_at t (ty ∷ tys) word k = number_at t ty word k ∷ numbers_at t tys word (k + (if is_double t ty then 2 else 1))
+-- how many words of arguments, and of results, a call passes in registers
+abbrev pub register_words : Target → ℕ
+register_words Arm = 0
+register_words Riscv64 = 8
 
 -- how many words numbers of the types take
 abbrev pub count_words : Target → List Ty → ℕ

@@ -1,7 +1,7 @@
 // The words and the arguments of signatures.
 ghost use Rattle.std.specs.Prelude.{◌≡◌, ◌≤◌, ◌*◌, ◌^◌, length, nat_lt, if◌then◌else◌};
 ghost use Rattle.bk_ops.specs.Types.{width_of};
-ghost use Rattle.bk_func.specs.Words.{is_double, count_words};
+ghost use Rattle.bk_func.specs.Words.{is_double, count_words, register_words};
 ghost use Rattle.bk_func.specs.Arguments.{fit};
 
 use bk_ops::{Target, Ty, width};
@@ -27,6 +27,16 @@ pub fn count_words(target: Target, types: &[Ty]) -> u64
         words += words_of_type(target, *ty);
     }
     words
+}
+
+/// How many words of arguments, and of results, a call passes in registers.
+pub fn register_words(target: Target) -> u64
+    ensures { result ≡ register_words target }
+{
+    match target {
+        Target::Arm => 0,
+        Target::Riscv64 => 8,
+    }
 }
 
 // Whether a number is below 2 to the width of the type.

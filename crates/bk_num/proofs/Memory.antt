@@ -2,7 +2,7 @@
 use Rattle.std.proofs.Common.{◌≡◌, ℕ, ◌+◌, ◌^◌, ◌<◌, ◌≤◌, List, [], length, ap, ◌∙◌, sym, subst, refl, arith, Option, Some, None, ◌⊎◌, inl, inr}
 use Rattle.bk_num.specs.Bytes.{load_in, store_in, written}
 use Rattle.bk_num.specs.Memory.{pool_base, data_base, or_in, read, to_stack, to_data, write}
-use Rattle.bk_num.proofs.Bytes.{bounds, tried, store_there, store_elsewhere, load_elsewhere, length-written, load_written, load_other, load_same}
+use Rattle.bk_num.proofs.Bytes.{bounds, tried, store_there, store_elsewhere, load_elsewhere, length-written, load_written, load_same}
 
 -- the pool ends below the data window, and this ends below the stack
 pub record AreApart (pool window : List ℕ) (bottom : ℕ) : Type 0 where

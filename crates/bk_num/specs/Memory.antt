@@ -1,14 +1,7 @@
 -- The memory of a machine: the pool of constants, which is only read, the data window and the stack.
 use Rattle.std.specs.Prelude.{ℕ, List, Option, Some, None}
 use Rattle.bk_num.specs.Bytes.{load_in, store_in}
-
--- where the pool begins
-abbrev pub pool_base : ℕ
-pool_base = 33554432
-
--- where the data window begins
-abbrev pub data_base : ℕ
-data_base = 67108864
+pub use Rattle.bk_num.specs.Addresses.{pool_base, data_base}
 
 -- the first of two numbers that is there
 abbrev pub or_in : Option ℕ → Option ℕ → Option ℕ

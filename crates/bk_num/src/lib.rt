@@ -1,4 +1,4 @@
-//! Arithmetic modulo 2^w, for widths w from 1 to 64, and windows of bytes.
+//! Arithmetic modulo 2^w, for widths w from 1 to 64, windows of bytes, and the address map.
 //!
 //! Each call of arithmetic takes its numbers modulo 2^w, and a shift's count as it is.
 #![tactic(auto)]
@@ -7,8 +7,10 @@ ghost use Rattle.std.specs.Prelude.{◌≡◌, ◌*◌, ◌/◌, ◌%◌, ◌^�
 ghost use Rattle.std.specs.Int.{int_div_euclid};
 ghost use Rattle.bk_num.specs.Word.{signed, residue, rotated, high_half};
 
+mod addresses;
 mod windows;
 
+pub use addresses::{DATA_BASE, HALT, POOL_BASE, STACK_TOP, TEXT_BASE};
 pub use windows::{load_in, push_bytes, push_each, store_in};
 
 #[cfg(test)]

@@ -3,6 +3,7 @@ pub mod Bounds
 pub mod Cut
 pub mod Ignored
 pub mod LowBits
+pub mod Named
 pub mod Order
 pub mod Pure
 pub mod Reading

@@ -4,7 +4,7 @@ use Rattle.std.proofs.lemmas.Bool.{false≢true, eqb-true, and_parts, or_cases}
 use Rattle.std.proofs.lemmas.Slice.Eq.{bytes_eq-Decides}
 use Rattle.std.specs.List.{find}
 use Rattle.bk_ops.specs.declared.family.Family.{Family}
-use Rattle.bk_ops.specs.declared.family.Family.TheVariants.{Const, ConstBool, ConstNil, Add, Sub, Mul, And, Or, Xor, Neg, Com, Div, Divu, Mod, Modu, Hmul, Hmulu, Lsh, Rsh, RshU, Eq, Neq, Less, LessU, Leq, LeqU, EqB, NeqB, AndB, OrB, Not, EqPtr, NeqPtr, IsNonNil, IsInBounds, IsSliceInBounds, SignExt, ZeroExt, Trunc, CvtBoolToUint8, Signmask, Zeromask, Ctz32, BitLen32, RotateLeft, CondSelect, AddPtr, SubPtr, OffPtr, Int64Make, Int64Hi, Int64Lo, AddHi32, SubHi32, Phi, Copy, Arg, InitMem, Sp, Sb, Addr, Load, Store, Zero, Move, NilCheck, PanicBounds, StaticLECall, SelectN, MakeResult, ArgWord, ResWord, OutWord, RetWord, Call, Trap, Arm, Rv}
+use Rattle.bk_ops.specs.declared.family.Family.TheVariants.{Const, ConstBool, ConstNil, Add, Sub, Mul, And, Or, Xor, Neg, Com, Div, Divu, Mod, Modu, Hmul, Hmulu, Lsh, Rsh, RshU, Eq, Neq, Less, LessU, Leq, LeqU, EqB, NeqB, AndB, OrB, Not, EqPtr, NeqPtr, IsNonNil, IsInBounds, IsSliceInBounds, SignExt, ZeroExt, Trunc, CvtBoolToUint8, Signmask, Zeromask, Ctz32, BitLen32, RotateLeft, CondSelect, AddPtr, SubPtr, OffPtr, Int64Make, Int64Hi, Int64Lo, AddHi32, SubHi32, Phi, Copy, Arg, InitMem, Sp, Sb, Addr, Load, Store, Zero, Move, NilCheck, PanicBounds, StaticLECall, SelectN, MakeResult, ArgWord, ArgReg, ResWord, ResReg, OutWord, RetWord, RetRegs, Call, CallRegs, Trap, Arm, Rv}
 use Rattle.bk_ops.specs.declared.family.ArmOp.TheVariants as arm
 use Rattle.bk_ops.specs.declared.family.RvOp.TheVariants as rv
 use Rattle.bk_ops.specs.declared.table.Widths.{Widths}
@@ -105,10 +105,14 @@ each_read StaticLECall x y = refl
 each_read SelectN x y = refl
 each_read MakeResult x y = refl
 each_read ArgWord x y = refl
+each_read ArgReg x y = refl
 each_read ResWord x y = refl
+each_read ResReg x y = refl
 each_read OutWord x y = refl
 each_read RetWord x y = refl
+each_read RetRegs x y = refl
 each_read Call x y = refl
+each_read CallRegs x y = refl
 each_read Trap x y = refl
 each_read (Arm arm.Const) x y = refl
 each_read (Arm arm.Addr) x y = refl

@@ -1,4 +1,5 @@
 pub mod Arithmetic
+pub mod Families
 pub mod Formulas
 pub mod Memory
 pub mod Names

@@ -1,7 +1,7 @@
 -- The op table: a row for each op, whatever the widths in its name.
 use Rattle.std.specs.Prelude.{ℕ, Bool, true, false, nat_lt, ◌==◌, ◌&&◌, ◌||◌, if◌then◌else◌, List, [], Option, Some, None, codes}
 use Rattle.bk_ops.specs.declared.family.Family.{Family}
-use Rattle.bk_ops.specs.declared.family.Family.TheVariants.{Const, ConstBool, ConstNil, Add, Sub, Mul, And, Or, Xor, Neg, Com, Div, Divu, Mod, Modu, Hmul, Hmulu, Lsh, Rsh, RshU, Eq, Neq, Less, LessU, Leq, LeqU, EqB, NeqB, AndB, OrB, Not, EqPtr, NeqPtr, IsNonNil, IsInBounds, IsSliceInBounds, SignExt, ZeroExt, Trunc, CvtBoolToUint8, Signmask, Zeromask, Ctz32, BitLen32, RotateLeft, CondSelect, AddPtr, SubPtr, OffPtr, Int64Make, Int64Hi, Int64Lo, AddHi32, SubHi32, Phi, Copy, Arg, InitMem, Sp, Sb, Addr, Load, Store, Zero, Move, NilCheck, PanicBounds, StaticLECall, SelectN, MakeResult, ArgWord, ResWord, OutWord, RetWord, Call, Trap, Arm, Rv}
+use Rattle.bk_ops.specs.declared.family.Family.TheVariants.{Const, ConstBool, ConstNil, Add, Sub, Mul, And, Or, Xor, Neg, Com, Div, Divu, Mod, Modu, Hmul, Hmulu, Lsh, Rsh, RshU, Eq, Neq, Less, LessU, Leq, LeqU, EqB, NeqB, AndB, OrB, Not, EqPtr, NeqPtr, IsNonNil, IsInBounds, IsSliceInBounds, SignExt, ZeroExt, Trunc, CvtBoolToUint8, Signmask, Zeromask, Ctz32, BitLen32, RotateLeft, CondSelect, AddPtr, SubPtr, OffPtr, Int64Make, Int64Hi, Int64Lo, AddHi32, SubHi32, Phi, Copy, Arg, InitMem, Sp, Sb, Addr, Load, Store, Zero, Move, NilCheck, PanicBounds, StaticLECall, SelectN, MakeResult, ArgWord, ArgReg, ResWord, ResReg, OutWord, RetWord, RetRegs, Call, CallRegs, Trap, Arm, Rv}
 use Rattle.bk_ops.specs.declared.family.ArmOp.{ArmOp}
 use Rattle.bk_ops.specs.declared.family.ArmOp.TheVariants as arm
 use Rattle.bk_ops.specs.declared.family.RvOp.{RvOp}
@@ -207,10 +207,14 @@ row SelectN a b = entry (codes "SelectN") [] Alone (Some 1) aux.Int ByType false
 row MakeResult a b = entry (codes "MakeResult") [] Alone None aux.None Tuple false true
 -- words of arguments and results, calls and traps
 row ArgWord a b = entry (codes "ARGWORD") [] Alone (Some 0) aux.Int Word false false
+row ArgReg a b = entry (codes "ARGREG") [] Alone (Some 0) aux.Int Word false false
 row ResWord a b = entry (codes "RESWORD") [] Alone (Some 1) aux.Int Word false false
+row ResReg a b = entry (codes "RESREG") [] Alone (Some 1) aux.Int Word false false
 row OutWord a b = entry (codes "OUTWORD") [] Alone (Some 2) aux.Int Mem false true
 row RetWord a b = entry (codes "RETWORD") [] Alone (Some 2) aux.Int Mem false true
+row RetRegs a b = entry (codes "RETREGS") [] Alone None aux.None Mem false true
 row Call a b = entry (codes "CALL") [] Alone (Some 1) aux.Name Mem false true
+row CallRegs a b = entry (codes "CALLREGS") [] Alone None aux.Name Mem false true
 row Trap a b = entry (codes "TRAP") [] Alone (Some 1) aux.Int Mem false true
 row (Arm m) a b = arm_row m
 row (Rv m) a b = rv_row m

@@ -2,7 +2,7 @@
 use Rattle.std.specs.Prelude.{ℕ, ◌<◌, ◌≤◌, ℤ, pos, List, [], ◌∷◌, ◌%◌, ◌^◌, Bool, true, false, ◌&&◌, ◌==◌, not, if◌then◌else◌, Option, Some, None}
 use Rattle.bk_ops.specs.declared.types.Target.{Target}
 use Rattle.bk_ops.specs.declared.family.Family.{Family}
-use Rattle.bk_ops.specs.declared.family.Family.TheVariants.{Phi, Arg, Addr, SelectN, ArgWord, ResWord, Arm, Rv}
+use Rattle.bk_ops.specs.declared.family.Family.TheVariants.{Phi, Arg, Addr, SelectN, ArgWord, ArgReg, ResWord, ResReg, Arm, Rv}
 use Rattle.bk_ops.specs.declared.family.ArmOp.TheVariants as arm
 use Rattle.bk_ops.specs.declared.family.RvOp.TheVariants as rv
 use Rattle.bk_ops.specs.declared.table.Op.{Op}
@@ -98,7 +98,9 @@ is_given Arg = true
 is_given Addr = true
 is_given SelectN = true
 is_given ArgWord = true
+is_given ArgReg = true
 is_given ResWord = true
+is_given ResReg = true
 is_given (Arm arm.Addr) = true
 is_given (Rv rv.Addr) = true
 is_given _ = false

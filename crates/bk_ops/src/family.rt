@@ -3,7 +3,7 @@
 /// The row of an op in the op table: the op without the widths in its name.
 ///
 /// Generic ops are named as in Go's `cmd/compile/internal/ssa`. A machine op stands for one unit of
-/// instructions; the last six ops pass words between functions, call and trap.
+/// instructions; the last ten generic ops pass words between functions, call and trap.
 #[derive(Clone, Copy, PartialEq, Eq, Debug)]
 pub enum Family {
     // Constants.
@@ -89,10 +89,14 @@ pub enum Family {
     MakeResult,
     // Words of arguments and results, calls and traps.
     ArgWord,
+    ArgReg,
     ResWord,
+    ResReg,
     OutWord,
     RetWord,
+    RetRegs,
     Call,
+    CallRegs,
     Trap,
     // Machine ops.
     Arm(ArmOp),

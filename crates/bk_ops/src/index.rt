@@ -76,12 +76,14 @@ static LENGTH_5: [Family; 21] = [
     Family::Rv(RvOp::Nil),
 ];
 
-static LENGTH_6: [Family; 35] = [
+static LENGTH_6: [Family; 37] = [
     Family::NeqPtr,
     Family::BitLen32,
     Family::AddPtr,
     Family::SubPtr,
     Family::OffPtr,
+    Family::ArgReg,
+    Family::ResReg,
     Family::Arm(ArmOp::Add),
     Family::Arm(ArmOp::Sub),
     Family::Arm(ArmOp::Mul),
@@ -114,7 +116,7 @@ static LENGTH_6: [Family; 35] = [
     Family::Rv(RvOp::Move),
 ];
 
-static LENGTH_7: [Family; 33] = [
+static LENGTH_7: [Family; 34] = [
     Family::SignExt,
     Family::ZeroExt,
     Family::InitMem,
@@ -123,6 +125,7 @@ static LENGTH_7: [Family; 33] = [
     Family::ResWord,
     Family::OutWord,
     Family::RetWord,
+    Family::RetRegs,
     Family::Arm(ArmOp::Addr),
     Family::Arm(ArmOp::Sdiv),
     Family::Arm(ArmOp::Udiv),
@@ -150,12 +153,13 @@ static LENGTH_7: [Family; 33] = [
     Family::Rv(RvOp::Store),
 ];
 
-static LENGTH_8: [Family; 19] = [
+static LENGTH_8: [Family; 20] = [
     Family::ConstNil,
     Family::IsNonNil,
     Family::Signmask,
     Family::Zeromask,
     Family::NilCheck,
+    Family::CallRegs,
     Family::Arm(ArmOp::Const),
     Family::Arm(ArmOp::Smulh),
     Family::Arm(ArmOp::Umulh),

@@ -3,6 +3,7 @@
 
 mod arithmetic;
 mod eval;
+mod families;
 mod family;
 mod index;
 mod machine;
@@ -12,6 +13,10 @@ mod table;
 mod types;
 
 pub use eval::eval_op;
+pub use families::{
+    is_address, is_call, is_call_result, is_copy, is_load, is_nil_check, is_phi, is_word_call,
+    is_word_result,
+};
 pub use family::{ArmOp, Family, RvOp};
 pub use names::{op_name, op_of_name};
 pub use refused::is_refused;

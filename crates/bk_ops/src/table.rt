@@ -218,10 +218,14 @@ pub(crate) fn row_of(op: Op) -> Row
         Family::MakeResult => row!("MakeResult" "" Alone, None, None, Tuple, false true),
         // Words of arguments and results, calls and traps.
         Family::ArgWord => row!("ARGWORD" "" Alone, Some(0), Int, Word, false false),
+        Family::ArgReg => row!("ARGREG" "" Alone, Some(0), Int, Word, false false),
         Family::ResWord => row!("RESWORD" "" Alone, Some(1), Int, Word, false false),
+        Family::ResReg => row!("RESREG" "" Alone, Some(1), Int, Word, false false),
         Family::OutWord => row!("OUTWORD" "" Alone, Some(2), Int, Mem, false true),
         Family::RetWord => row!("RETWORD" "" Alone, Some(2), Int, Mem, false true),
+        Family::RetRegs => row!("RETREGS" "" Alone, None, None, Mem, false true),
         Family::Call => row!("CALL" "" Alone, Some(1), Name, Mem, false true),
+        Family::CallRegs => row!("CALLREGS" "" Alone, None, Name, Mem, false true),
         Family::Trap => row!("TRAP" "" Alone, Some(1), Int, Mem, false true),
         // Machine ops.
         Family::Arm(op) => arm_row_of(op),

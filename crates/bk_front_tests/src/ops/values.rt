@@ -131,7 +131,7 @@ fn ops_of_three_and_four(rt: HostRuntime) {
 }
 
 // Counts of arguments at which an op has no value.
-const NONE: [(&str, usize); 20] = [
+const NONE: [(&str, usize); 24] = [
     ("Const8", 1),
     ("Neg8", 0),
     ("Add8", 1),
@@ -148,6 +148,10 @@ const NONE: [(&str, usize); 20] = [
     ("MakeResult", 1),
     ("ARGWORD", 0),
     ("RESWORD", 1),
+    ("ARGREG", 0),
+    ("RESREG", 1),
+    ("CALLREGS", 2),
+    ("RETREGS", 2),
     ("ARMADDR", 0),
     ("RVADDR", 0),
     ("RVLOAD8", 2),

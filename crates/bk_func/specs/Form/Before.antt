@@ -1,7 +1,8 @@
 -- Which values of a block come before which.
-use Rattle.std.specs.Prelude.{◌≡◌, ℕ, ◌<◌, Some, ◌⊎◌}
+use Rattle.std.specs.Prelude.{◌≡◌, ℕ, ◌<◌, true, Some, ◌⊎◌}
 use Rattle.std.specs.List.{Contains, slice_get}
-use Rattle.bk_ops.specs.declared.family.Family.TheVariants.{Load, NilCheck, SelectN, ResWord, Arm, Rv}
+use Rattle.bk_ops.specs.Families.{is_word_result}
+use Rattle.bk_ops.specs.declared.family.Family.TheVariants.{Load, NilCheck, SelectN, Arm, Rv}
 use Rattle.bk_ops.specs.declared.family.ArmOp.TheVariants as arm
 use Rattle.bk_ops.specs.declared.family.RvOp.TheVariants as rv
 use Rattle.bk_ops.specs.declared.types.Ty.TheVariants.{Mem}
@@ -17,7 +18,7 @@ IsNilCheck v = (v.op.family ≡ NilCheck) ⊎ (v.op.family ≡ Arm arm.Nil) ⊎ 
 
 -- a result of a call that is not memory
 abbrev pub IsResult : ValueRecord → Type 0
-IsResult v = (v.op.family ≡ ResWord) ⊎ ((v.op.family ≡ SelectN) × ¬ (v.ty ≡ Mem))
+IsResult v = (is_word_result v.op.family ≡ true) ⊎ ((v.op.family ≡ SelectN) × ¬ (v.ty ≡ Mem))
 
 -- u is an argument of v, which is no phi, and both stand in the block
 abbrev pub IsTakenBy : BlockRecord → ValueRecord → ValueRecord → Type 0

@@ -8,13 +8,14 @@ use Rattle.bk_ops.specs.declared.family.ArmOp.TheVariants as arm
 use Rattle.bk_ops.specs.declared.family.RvOp.TheVariants as rv
 use Rattle.bk_ops.specs.declared.table.AuxKind.{AuxKind}
 use Rattle.bk_ops.specs.declared.table.AuxKind.TheVariants as aux
+use Rattle.bk_ops.specs.declared.types.Ty.{Ty}
 use Rattle.bk_func.specs.declared.parts.Aux.{Aux}
 use Rattle.bk_func.specs.declared.parts.Aux.TheVariants as beside
 use Rattle.bk_func.specs.declared.parts.Kind.{Kind}
 use Rattle.bk_func.specs.declared.parts.Kind.TheVariants.{Plain, If, First, Ret, Exit}
 use Rattle.bk_func.specs.Records.{ValueRecord, BlockRecord, FuncRecord, SigRecord}
 use Rattle.bk_func.specs.Form.Text.{IsEntry}
-use Rattle.bk_func.specs.Form.Signatures.{Setting, words_of, words_of_sig, sig_named, sig_of, IsVariable, ResultOf, ArgumentOf}
+use Rattle.bk_func.specs.Form.Signatures.{Setting, places_of_sig, in_registers, sig_named, sig_of, IsVariable, ResultOf, ArgumentOf}
 
 -- the count of successors of a block of the kind, and whether it has a control
 abbrev pub FitsKind : Kind → List ℕ → Option ℕ → Type 0
@@ -62,6 +63,7 @@ pub data Symbol : Type 0 where
 unfoldable pub symbol_of : Family → Symbol
 symbol_of op.StaticLECall = function
 symbol_of op.Call = function
+symbol_of op.CallRegs = function
 symbol_of op.Addr = variable
 symbol_of (op.Arm arm.Addr) = variable
 symbol_of (op.Rv rv.Addr) = variable
@@ -88,11 +90,18 @@ abbrev pub call_arity : Setting → Option SigRecord → Option ℕ
 call_arity s None = None
 call_arity s (Some g) = Some (length (s.places g.args) + 1)
 
--- the value has as many arguments as its op takes
+-- the count of arguments of a call that passes words in registers: one for each of these, and memory
+abbrev pub registers_arity : Setting → Option SigRecord → Option ℕ
+registers_arity s None = None
+registers_arity s (Some g) = Some (length (s.places (in_registers s g.args)) + 1)
+
+-- the value has as many arguments as its op takes; a phi has one at least, and the results in registers are one at least
 unfoldable pub HasArity : Setting → FuncRecord → BlockRecord → ValueRecord → Family → Type 0
-HasArity s f b v op.Phi = length v.args ≡ length b.preds
+HasArity s f b v op.Phi = (length v.args ≡ length b.preds) × ¬ (v.args ≡ [])
 HasArity s f b v op.MakeResult = length v.args ≡ length (s.places f.sig.results) + 1
 HasArity s f b v op.StaticLECall = call_arity s (sig_of s.pkg v.aux) ≡ Some (length v.args)
+HasArity s f b v op.CallRegs = registers_arity s (sig_of s.pkg v.aux) ≡ Some (length v.args)
+HasArity s f b v op.RetRegs = (length v.args ≡ length (s.places (in_registers s f.sig.results)) + 1) × (1 < length v.args)
 HasArity s f b v _ = IfSome (info_of v.op).arity (λ n. length v.args ≡ n)
 
 -- the number has so many bits with a sign
@@ -102,12 +111,16 @@ IsSigned w n = (negsuc (2 ^ (w - 1) - 1) ≤ℤ n) × (n <ℤ pos (2 ^ (w - 1)))
 abbrev pub IsBetween : ℤ → ℕ → ℕ → Type 0
 IsBetween n low high = (pos low ≤ℤ n) × (n <ℤ pos high)
 
--- the number is that of a word of the signature: of its arguments, or of its results
+-- the number is that of a place of the signature: of its arguments, or of its results
 abbrev pub IsArgumentWord : Setting → SigRecord → ℤ → Type 0
-IsArgumentWord s g n = IsBetween n 0 (length (words_of s.target g.args))
+IsArgumentWord s g n = IsBetween n 0 (length (s.places g.args))
 
 abbrev pub IsResultWord : Setting → SigRecord → ℤ → Type 0
-IsResultWord s g n = IsBetween n (length (words_of s.target g.args)) (length (words_of_sig s.target g))
+IsResultWord s g n = IsBetween n (length (s.places g.args)) (length (places_of_sig s g))
+
+-- the number is that of an argument or a result that is passed in a register
+abbrev pub IsInRegister : Setting → List Ty → ℤ → Type 0
+IsInRegister s ts n = IsBetween n 0 (length (s.places (in_registers s ts)))
 
 -- the number beside an op that has one is in the op's range
 unfoldable pub InRange : Setting → FuncRecord → ValueRecord → Family → Type 0
@@ -119,7 +132,9 @@ InRange s f v op.ArgWord = IsArgumentWord s f.sig v.int
 InRange s f v op.RetWord = IsResultWord s f.sig v.int
 InRange s f v op.OutWord = (g : SigRecord) × ArgumentOf s.pkg f v g × IsArgumentWord s g v.int
 InRange s f v op.ResWord = (g : SigRecord) × ResultOf s.pkg f v g × IsResultWord s g v.int
-InRange s f v _ = Unit {0}
+InRange s f v op.ArgReg = IsInRegister s f.sig.args v.int
+InRange s f v op.ResReg = (g : SigRecord) × ResultOf s.pkg f v g × IsInRegister s g.results v.int
+InRange s f v _ = IsSigned 64 v.int
 
 -- the number beside the op is in its range, and 0 beside an op that has none
 abbrev pub HasRange : Setting → FuncRecord → ValueRecord → AuxKind → Type 0

@@ -1,6 +1,7 @@
 -- The types that the places of an op take, and the types that it gives.
 use Rattle.std.specs.Prelude.{◌≡◌, ℕ, ℤ, pos, ◌+◌, ◌==◌, Bool, true, false, if◌then◌else◌, List, [], length, Option, Some, None, MatchOption, MatchBool, ◌⊎◌}
 use Rattle.std.specs.List.{slice_get}
+use Rattle.bk_ops.specs.Families.{is_word_call}
 use Rattle.bk_ops.specs.Table.{info_of, is_op}
 use Rattle.bk_ops.specs.Types.{width_of, word_width}
 use Rattle.bk_ops.specs.declared.family.Family.{Family}
@@ -17,7 +18,7 @@ use Rattle.bk_func.specs.declared.parts.Kind.TheVariants.{Plain, If, First, Ret,
 use Rattle.bk_func.specs.Records.{ValueRecord, BlockRecord, FuncRecord, SigRecord}
 use Rattle.bk_func.specs.Form.Text.{HasValue}
 use Rattle.bk_func.specs.Form.States.{StandsFor}
-use Rattle.bk_func.specs.Form.Signatures.{Setting, words_of_sig, sig_of, ResultOf, ArgumentOf}
+use Rattle.bk_func.specs.Form.Signatures.{Setting, places_of_sig, in_registers, sig_of, ResultOf, ArgumentOf}
 
 -- numbers and truth values, which stand in machine words
 abbrev pub IsData : Setting → Ty → Type 0
@@ -98,6 +99,7 @@ slot o op.Int64Lo i = bits 64
 slot o op.Addr i = base
 slot o op.SelectN i = call
 slot o op.ResWord i = call
+slot o op.ResReg i = call
 slot o op.Load i = words_and_memory o i
 slot o op.Store i = if i == 1 then stored else words_and_memory o i
 slot o op.Zero i = words_and_memory o i
@@ -144,34 +146,42 @@ slot o op.Sb i = bits o.a
 slot o op.StaticLECall i = bits o.a
 slot o op.MakeResult i = bits o.a
 slot o op.ArgWord i = bits o.a
+slot o op.ArgReg i = bits o.a
+slot o op.CallRegs i = bits o.a
+slot o op.RetRegs i = bits o.a
 
 -- the base of the variables is an argument of addresses alone
 abbrev pub IsFree : ValueRecord → Type 0
 IsFree u = ¬ (u.op.family ≡ op.Sb)
 
--- the kind of call whose results the value takes
-abbrev pub call_family : Family → Family
-call_family op.SelectN = op.StaticLECall
-call_family _ = op.Call
+-- a value takes the results of a call of this family
+abbrev pub is_call_of : Family → Family → Bool
+is_call_of op.SelectN op.StaticLECall = true
+is_call_of op.SelectN _ = false
+is_call_of _ g = is_word_call g
 
 abbrev pub FitsStored : Setting → Aux → Ty → Type 0
 FitsStored s (beside.Ty x) y = IsAlike s x y
 FitsStored s _ y = ⊥
 
+-- of these places the one with number n, where it is there, has a type like this
+abbrev pub FitsPlaceOf : Setting → List Ty → ℤ → Ty → Type 0
+FitsPlaceOf s ts n x = (k : ℕ) (y : Ty) → n ≡ pos k → slice_get ts k ≡ Some y → IsAlike s y x
+
 -- word n of the signature, where it has one, has a type like this
 abbrev pub FitsWordOf : Setting → SigRecord → ℤ → Ty → Type 0
-FitsWordOf s g n x = (k : ℕ) (y : Ty) → n ≡ pos k → slice_get (words_of_sig s.target g) k ≡ Some y → IsAlike s y x
+FitsWordOf s g n x = FitsPlaceOf s (places_of_sig s g) n x
 
 -- the argument u fits the place of the value v
 abbrev pub FitsSlot : Setting → FuncRecord → ValueRecord → ValueRecord → Slot → Type 0
 FitsSlot s f v u (bits n) = IsFree u × FitsBits s n u.ty
 FitsSlot s f v u word = IsFree u × FitsWord s u.ty
-FitsSlot s f v u truth = FitsTruth s u.ty
+FitsSlot s f v u truth = IsFree u × FitsTruth s u.ty
 FitsSlot s f v u memory = u.ty ≡ Mem
 FitsSlot s f v u same = ((v.ty ≡ Mem) × (u.ty ≡ Mem)) ⊎ (IsFree u × IsAlike s v.ty u.ty)
 FitsSlot s f v u stored = IsFree u × FitsStored s v.aux u.ty
 FitsSlot s f v u base = u.op.family ≡ op.Sb
-FitsSlot s f v u call = u.op.family ≡ call_family v.op.family
+FitsSlot s f v u call = is_call_of v.op.family u.op.family ≡ true
 FitsSlot s f v u argument = IsFree u × IsData s u.ty × ((g : SigRecord) → ArgumentOf s.pkg f v g → FitsWordOf s g v.int u.ty)
 FitsSlot s f v u result = IsFree u × IsData s u.ty × FitsWordOf s f.sig v.int u.ty
 
@@ -184,6 +194,8 @@ FitsList s (Some g) part i u = MatchOption (slice_get (s.places (part g)) i) (u.
 unfoldable pub FitsPlace : Setting → FuncRecord → ValueRecord → Family → ℕ → ValueRecord → Type 0
 FitsPlace s f v op.StaticLECall i u = FitsList s (sig_of s.pkg v.aux) (λ g. g.args) i u
 FitsPlace s f v op.MakeResult i u = FitsList s (Some f.sig) (λ g. g.results) i u
+FitsPlace s f v op.CallRegs i u = FitsList s (sig_of s.pkg v.aux) (λ g. in_registers s g.args) i u
+FitsPlace s f v op.RetRegs i u = FitsList s (Some f.sig) (λ g. in_registers s g.results) i u
 FitsPlace s f v o i u = FitsSlot s f v u (slot v.op o i)
 
 -- a list of results, but memory alone where there is none
@@ -198,7 +210,7 @@ GivesArgument s ts _ x = ⊥
 
 -- result n of a call: memory after the last, and no type to fit past that
 abbrev pub GivesResult : Setting → List Ty → ℤ → Ty → Type 0
-GivesResult s ts n x = ((n ≡ pos (length ts)) → x ≡ Mem) × ((k : ℕ) (y : Ty) → n ≡ pos k → slice_get ts k ≡ Some y → IsAlike s y x)
+GivesResult s ts n x = ((n ≡ pos (length ts)) → x ≡ Mem) × FitsPlaceOf s ts n x
 
 -- the value's own type is one that its op gives; most ops say it by their class
 unfoldable pub GivesByType : Setting → FuncRecord → ValueRecord → Family → Type 0
@@ -212,6 +224,8 @@ GivesByType s f v _ = IsData s v.ty
 unfoldable pub GivesWord : Setting → FuncRecord → ValueRecord → Family → Type 0
 GivesWord s f v op.ArgWord = IsData s v.ty × FitsWordOf s f.sig v.int v.ty
 GivesWord s f v op.ResWord = IsData s v.ty × ((g : SigRecord) → ResultOf s.pkg f v g → FitsWordOf s g v.int v.ty)
+GivesWord s f v op.ArgReg = IsData s v.ty × FitsPlaceOf s (s.places f.sig.args) v.int v.ty
+GivesWord s f v op.ResReg = IsData s v.ty × ((g : SigRecord) → ResultOf s.pkg f v g → FitsPlaceOf s (s.places g.results) v.int v.ty)
 GivesWord s f v _ = FitsWord s v.ty
 
 unfoldable pub GivesResults : Setting → FuncRecord → ValueRecord → Family → Type 0
@@ -249,8 +263,8 @@ IsMemory f n P = (b : BlockRecord) × (u : ValueRecord) × HasValue f b u × Sta
 abbrev pub FitsControl : Setting → FuncRecord → ValueRecord → Kind → Type 0
 FitsControl s f v Plain = Unit {0}
 FitsControl s f v First = Unit {0}
-FitsControl s f v If = FitsTruth s v.ty
-FitsControl s f v Ret = (v.op.family ≡ op.MakeResult) ⊎ (v.op.family ≡ op.RetWord) ⊎ ((f.sig.results ≡ []) × IsMemory f v.id (λ u. Unit {0}))
+FitsControl s f v If = IsFree v × FitsTruth s v.ty
+FitsControl s f v Ret = (v.op.family ≡ op.MakeResult) ⊎ (v.op.family ≡ op.RetWord) ⊎ (v.op.family ≡ op.RetRegs) ⊎ ((f.sig.results ≡ []) × IsMemory f v.id (λ u. Unit {0}))
 FitsControl s f v Exit = IsMemory f v.id (λ u. ¬ (u.op.family ≡ op.MakeResult))
 
 abbrev pub HasControlType : Setting → FuncRecord → BlockRecord → Type 0

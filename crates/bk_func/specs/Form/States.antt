@@ -1,8 +1,9 @@
 -- The states of memory, and the chain that they form along every walk.
-use Rattle.std.specs.Prelude.{◌≡◌, ℕ, ◌+◌, ◌<◌, ◌==◌, true, List, [], ◌∷◌, ◌++◌, length, Some, ◌⊎◌, ◌↔◌}
+use Rattle.std.specs.Prelude.{◌≡◌, ℕ, ◌+◌, ◌<◌, ◌==◌, true, false, List, [], ◌∷◌, ◌++◌, length, Some, ◌⊎◌, ◌↔◌}
 use Rattle.std.specs.List.{Contains, IsDistinct, slice_get}
 use Rattle.bk_ops.specs.Table.{info_of}
-use Rattle.bk_ops.specs.declared.family.Family.TheVariants.{Copy, InitMem, StaticLECall, SelectN, MakeResult, ResWord}
+use Rattle.bk_ops.specs.Families.{is_call_result}
+use Rattle.bk_ops.specs.declared.family.Family.TheVariants.{Copy, InitMem, StaticLECall, MakeResult}
 use Rattle.bk_ops.specs.declared.types.Ty.TheVariants.{Mem, Tuple}
 use Rattle.bk_func.specs.Records.{ValueRecord, BlockRecord, FuncRecord}
 use Rattle.bk_func.specs.Form.Text.{HasBlock, HasValue, Defines, IsEntry, IsPhi, IsFirstIn}
@@ -34,7 +35,7 @@ pub data StandsFor (f : FuncRecord) : ℕ → ℕ → Type 0 where
 
 -- the place of the argument that names a state: of a result its call, else the last of an op with memory; a phi has none
 abbrev pub NamesAt : ValueRecord → ℕ → Type 0
-NamesAt v k = (CopiesMemory v × (k ≡ 0)) ⊎ ((v.op.family ≡ SelectN) × (k ≡ 0)) ⊎ ((v.op.family ≡ ResWord) × (k ≡ 0))
+NamesAt v k = (CopiesMemory v × (k ≡ 0)) ⊎ ((is_call_result v.op.family ≡ true) × (k ≡ 0))
     ⊎ (((info_of v.op).memory ≡ true) × (k + 1 ≡ length v.args))
 
 -- the value names the state with this number
@@ -107,8 +108,8 @@ EndsItsBlock f b v = (b.control ≡ Some v.id) × ((c : BlockRecord) → HasBloc
 pub record KeepsMemory (f : FuncRecord) (b : BlockRecord) (v : ValueRecord) : Type 0 where
   pub first : v.op.family ≡ InitMem → IsFirstInit f b v
   pub phi : IsPhi v → v.ty ≡ Mem → TakesLastStates f b v
-  pub call : (v.op.family ≡ SelectN) ⊎ (v.op.family ≡ ResWord) → (n : ℕ) → slice_get v.args 0 ≡ Some n → Defines b n
+  pub call : is_call_result v.op.family ≡ true → (n : ℕ) → slice_get v.args 0 ≡ Some n → Defines b n
   pub results : v.op.family ≡ MakeResult → v.ty ≡ Tuple → EndsItsBlock f b v
   pub last : v.op.family ≡ MakeResult → IsReached f b → (s : ℕ) × Names f v s × IsLastState f b s
-  pub names : (k : ℕ) → ¬ IsPhi v → ¬ (v.op.family ≡ MakeResult) → ¬ (v.op.family ≡ SelectN) → ¬ (v.op.family ≡ ResWord) → IsReached f b
+  pub names : (k : ℕ) → ¬ IsPhi v → ¬ (v.op.family ≡ MakeResult) → is_call_result v.op.family ≡ false → IsReached f b
       → NamesAt v k → k < length v.args → (s : ℕ) × Names f v s × IsStateIn f b s

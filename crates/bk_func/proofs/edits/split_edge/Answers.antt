@@ -1,4 +1,4 @@
-use Rattle.std.proofs.Common.{ℕ, ◌==◌, List, IsSome, position, sym, ◌∙◌, ap, subst}
+use Rattle.std.proofs.Common.{◌==◌, List, IsSome, position, sym, ◌∙◌, ap, subst}
 use Rattle.std.specs.List.{find}
 use Rattle.bk_func.specs.Records.{BlockRecord, FuncRecord}
 use Rattle.bk_func.specs.Edits.{successor_in}
