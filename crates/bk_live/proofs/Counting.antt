@@ -4,10 +4,10 @@ use Rattle.std.specs.List.{slice_get, sum_by}
 use Rattle.std.proofs.lemmas.Bool.{cases_lt}
 use Rattle.std.proofs.lemmas.List.{get_or_append_left, get_or-map, get_or_push, length-map, length_push, map-append, map_more, take-take}
 use Rattle.std.proofs.lemmas.List.Sums.{sum_by_more, sum_by-take-le}
-use Rattle.std.proofs.lemmas.Option.{slice_get-get_or, slice_get_read, slice_get_within, get_or_from_slice_get}
+use Rattle.std.proofs.lemmas.Option.{slice_get_read, slice_get_within, get_or_from_slice_get}
 use Rattle.bk_func.specs.Records.{FuncRecord}
 use Rattle.bk_live.specs.Counts.{cost_of, IsCounted, AreCounts, last_of}
-use Rattle.bk_live.specs.Live.{cost, IsEntry, order_at}
+use Rattle.bk_live.specs.Live.{cost, order_at}
 
 -- the counts of the fronts of up to i entries, the last of them being c
 pub record CountsUpTo (f : FuncRecord) (order : List ℕ) (i c : ℕ) (row : List ℕ) : Type 0 where

@@ -1,5 +1,5 @@
 -- Rows to which live values are added.
-use Rattle.std.proofs.Common.{◌≡◌, ◌∙◌, sym, refl, ap, subst, ℕ, ◌+◌, ◌<◌, ◌≤◌, ◌⊎◌, List, [], ◌∷◌, ◌++◌, length, get_or, set, take, replicate, Option, None, Some, inl, inr, ⊎_elim, arith}
+use Rattle.std.proofs.Common.{◌≡◌, ◌∙◌, sym, refl, ap, subst, ℕ, ◌+◌, ◌<◌, ◌≤◌, ◌⊎◌, List, [], ◌∷◌, ◌++◌, length, get_or, set, take, replicate, Option, None, Some, ⊎_elim, arith}
 use Rattle.std.specs.List.{AllPairs, Contains}
 use Rattle.std.proofs.lemmas.Bool.{cases_eq, cases_lt}
 use Rattle.std.proofs.lemmas.List.{get_or_past, get_or-replicate, get_or-set_other, get_or-set_same, get_or_append_left, get_or_default, get_or_push, get_or-take, length-take-le, length-replicate, length-set, length_push, take_more, take_all}
@@ -8,8 +8,8 @@ use Rattle.std.proofs.lemmas.Option.{none-some, same_Some}
 use Rattle.bk_live.specs.declared.rows.LiveValue.{LiveValue}
 use Rattle.bk_live.specs.declared.search.Search.{Search}
 use Rattle.bk_live.specs.declared.search.Start.{Start}
-use Rattle.bk_live.specs.Rows.{AddsFound, AreRising, HasLiveUpTo, HasRows, IsRising, live_value, with_live}
-use Rattle.bk_live.specs.Search.{Finds, Found, HasUpTo, IsClear, IsReady, Marks, distance}
+use Rattle.bk_live.specs.Rows.{AddsFound, HasLiveUpTo, HasRows, IsRising, live_value, with_live}
+use Rattle.bk_live.specs.Search.{Finds, Found, IsClear, IsReady, Marks, distance}
 use Rattle.bk_live.proofs.Searching.{marks_none}
 
 -- the rows at these places have the value

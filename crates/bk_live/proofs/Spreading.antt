@@ -1,16 +1,16 @@
 -- What a search from the uses of a value finds are the walks from the starts of blocks.
-use Rattle.std.proofs.Common.{◌≡◌, ◌≢◌, ◌∙◌, sym, refl, ap, subst, ℕ, zero, suc, ◌+◌, ◌<◌, ◌≤◌, ◌⊎◌, ◌↔◌, Bool, cond, List, [], length, get_or, map, Option, None, Some, ⊎_elim, arith}
+use Rattle.std.proofs.Common.{◌≡◌, ◌≢◌, ◌∙◌, sym, refl, ap, subst, ℕ, zero, suc, ◌+◌, ◌<◌, ◌≤◌, ◌↔◌, Bool, cond, List, [], length, get_or, map, Option, None, Some, ⊎_elim, arith}
 use Rattle.std.specs.List.{Contains}
 use Rattle.std.specs.Option.{option_and_then, unwrap_or}
 use Rattle.std.proofs.lemmas.Bool.{cases_lt, eq-eqb, ne_eqb}
 use Rattle.std.proofs.lemmas.List.{get_or-map, get_or_past}
-use Rattle.std.proofs.lemmas.Option.{none-some, same_Some, slice_get_past, slice_get_read, slice_get_within, slice_get-get_or}
+use Rattle.std.proofs.lemmas.Option.{none-some, same_Some, slice_get_past, slice_get_within, slice_get-get_or}
 use Rattle.std.specs.List.{slice_get}
 use Rattle.bk_func.specs.Records.{FuncRecord}
 use Rattle.bk_live.specs.declared.homes.Spot.{Spot}
 use Rattle.bk_live.specs.declared.search.Start.{Start}
 use Rattle.bk_live.specs.declared.uses.Use.{Use}
-use Rattle.bk_live.specs.Counts.{AreCounts, count_at, last_of, length_of, steps_between}
+use Rattle.bk_live.specs.Counts.{AreCounts, count_at, length_of, steps_between}
 use Rattle.bk_live.specs.Homes.{IsBehind, spot}
 use Rattle.bk_live.specs.Live.{HasSuccessor, IsEntry, IsUsedAt, Leads, here, leave, order_at, pass}
 use Rattle.bk_live.specs.Prepared.{IsPrepared, IsStartOf, home_or, start_of}

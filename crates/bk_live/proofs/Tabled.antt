@@ -1,13 +1,12 @@
 -- What a table tells are the next uses.
-use Rattle.std.proofs.Common.{◌≡◌, ◌∙◌, sym, refl, ap, subst, ℕ, zero, suc, ◌+◌, ◌-◌, ◌<◌, ◌≤◌, ◌⊎◌, ◌↔◌, ◌==◌, ◌&&◌, nat_le, nat_lt, Bool, true, false, cond, List, [], ◌∷◌, length, get_or, map, Option, None, Some, inl, inr, ⊎_elim, arith}
+use Rattle.std.proofs.Common.{◌≡◌, ◌∙◌, sym, refl, ap, subst, ℕ, zero, suc, ◌+◌, ◌<◌, ◌≤◌, ◌⊎◌, ◌↔◌, ◌==◌, ◌&&◌, nat_le, Bool, true, false, cond, List, [], ◌∷◌, length, get_or, map, Option, None, Some, inl, inr, ⊎_elim, arith}
 use Rattle.std.proofs.Math.Path.{fun_ext}
 use Rattle.std.specs.BTreeMap.Range.{range_contains}
 use Rattle.std.specs.List.{AllPairs, Contains, filter, find, fold, slice_get}
-use Rattle.std.specs.Option.{IsSome, option_and_then, option_map}
+use Rattle.std.specs.Option.{option_and_then, option_map}
 use Rattle.std.specs.declared.ops.Bound.TheVariants.{Included, Unbounded}
-use Rattle.std.proofs.lemmas.Bool.{and_parts, cases_eq, cases_lt, eq-eqb, eqb-true, false≢true, le-leb, leb-true, le-ltb, lt-ltb, ne_eqb}
-use Rattle.std.proofs.lemmas.List.{get_or_default, get_or_past, get_or-map, length-map}
-use Rattle.std.proofs.lemmas.List.Elements.{Contains-get_or}
+use Rattle.std.proofs.lemmas.Bool.{and_parts, cases_eq, cases_lt, eq-eqb, eqb-true, false≢true, le-leb, leb-true, le-ltb, lt-ltb}
+use Rattle.std.proofs.lemmas.List.{get_or_past, get_or-map, length-map}
 use Rattle.std.proofs.lemmas.Option.{none-some, same_Some, slice_get-get_or, slice_get_past, slice_get_within}
 use Rattle.bk_func.specs.Records.{BlockRecord, FuncRecord}
 use Rattle.bk_live.specs.declared.homes.Spot.{Spot}
@@ -15,9 +14,9 @@ use Rattle.bk_live.specs.declared.rows.LiveValue.{LiveValue}
 use Rattle.bk_live.specs.declared.table.Sight.{Sight}
 use Rattle.bk_live.specs.declared.table.Sight.TheVariants as sees
 use Rattle.bk_live.specs.declared.table.Table.{Table}
-use Rattle.bk_live.specs.Counts.{count_at, last_of, steps_between, total_at}
+use Rattle.bk_live.specs.Counts.{count_at, steps_between, total_at}
 use Rattle.bk_live.specs.Homes.{home, place}
-use Rattle.bk_live.specs.Live.{AllNextUses, AreLive, HasSuccessor, IsEntry, IsLive, IsNextUse, IsOrdered, IsPlaced, IsUsedAt, Leads, NextUseIs, order_at}
+use Rattle.bk_live.specs.Live.{AllNextUses, AreLive, IsEntry, IsLive, IsNextUse, IsOrdered, IsPlaced, IsUsedAt, Leads, NextUseIs, order_at}
 use Rattle.bk_live.specs.Rows.{IsRising, distance_in, live_value, values_of}
 use Rattle.bk_live.specs.Seen.{IsFree, IsLeast, IsUnused, Sees, lesser}
 use Rattle.bk_live.specs.Table.{IsLiveRow, IsTable, definition, entry_from, entry_of, first_use, least_behind, look, nearer, next_at, next_in, sight_of, told, use_cmp, use_key}

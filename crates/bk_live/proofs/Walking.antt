@@ -1,11 +1,10 @@
 -- Walks through one block.
-use Rattle.std.proofs.Common.{◌≡◌, ◌∙◌, sym, refl, ap, subst, ℕ, zero, suc, ◌+◌, ◌-◌, ◌<◌, ◌≤◌, ◌⊎◌, List, length, Some, inl, inr, ⊎_elim, arith, add-one}
-use Rattle.std.specs.List.{slice_get}
+use Rattle.std.proofs.Common.{◌≡◌, ◌∙◌, sym, refl, ap, subst, ℕ, zero, suc, ◌+◌, ◌-◌, ◌<◌, ◌≤◌, ◌⊎◌, List, length, inl, inr, ⊎_elim, arith, add-one}
 use Rattle.std.proofs.lemmas.Bool.{cases_lt}
 use Rattle.std.proofs.lemmas.Option.{same_Some, slice_get_within}
 use Rattle.bk_func.specs.Records.{FuncRecord}
 use Rattle.bk_live.specs.Counts.{cost_of, steps_between}
-use Rattle.bk_live.specs.Live.{IsEntry, IsEnd, IsUsedAt, HasSuccessor, order_at, Leads, here, pass, leave, cost}
+use Rattle.bk_live.specs.Live.{IsEntry, IsUsedAt, HasSuccessor, order_at, Leads, here, pass, leave, cost}
 use Rattle.bk_live.specs.Seen.{IsFree}
 use Rattle.bk_live.proofs.Alone.{at_some}
 use Rattle.bk_live.proofs.Counting.{cost_next, cost_grows}

@@ -1,7 +1,7 @@
 -- How many scheduled places stand before the entries of orders.
-use Rattle.std.specs.Prelude.{◌≡◌, ℕ, suc, ◌+◌, ◌-◌, ◌<◌, ◌≤◌, List, [], length, take, Option, None, Some, slice_index_or}
+use Rattle.std.specs.Prelude.{◌≡◌, ℕ, ◌+◌, ◌-◌, ◌<◌, ◌≤◌, List, [], length, take, Option, Some, slice_index_or}
 use Rattle.std.specs.List.{slice_get, sum_by}
-use Rattle.std.specs.Option.{option_and_then, unwrap_or}
+use Rattle.std.specs.Option.{option_and_then}
 use Rattle.bk_func.specs.Records.{FuncRecord}
 use Rattle.bk_live.specs.Live.{cost, order_at}
 

@@ -1,10 +1,10 @@
 -- What is seen of a value from the places of a function.
-use Rattle.std.specs.Prelude.{◌≡◌, ◌↔◌, ℕ, ◌+◌, ◌<◌, ◌≤◌, nat_lt, List, [], length, Option, None, Some, slice_index_or, if◌then◌else◌}
+use Rattle.std.specs.Prelude.{◌≡◌, ◌↔◌, ℕ, ◌+◌, ◌<◌, ◌≤◌, nat_lt, List, length, Option, None, Some, if◌then◌else◌}
 use Rattle.bk_func.specs.Records.{FuncRecord}
 use Rattle.bk_live.specs.declared.table.Sight.{Sight}
 use Rattle.bk_live.specs.declared.table.Sight.TheVariants as sees
 use Rattle.bk_live.specs.Edges.{IsEdge}
-use Rattle.bk_live.specs.Live.{IsEntry, IsUsedAt, HasSuccessor, Leads}
+use Rattle.bk_live.specs.Live.{IsEntry, IsUsedAt, HasSuccessor}
 
 -- n does not stand among the entries from k to before l of the block at i
 abbrev pub IsFree : List (List ℕ) → ℕ → ℕ → ℕ → ℕ → Type 0

@@ -1,5 +1,5 @@
 -- The next uses of all values at all places of a function, as a table gives them.
-use Rattle.std.specs.Prelude.{◌≡◌, ◌↔◌, ℕ, ◌+◌, ◌<◌, ◌≤◌, ◌==◌, ◌&&◌, nat_lt, nat_le, List, [], length, Option, None, Some, slice_index_or, if◌then◌else◌}
+use Rattle.std.specs.Prelude.{◌≡◌, ◌↔◌, ℕ, ◌+◌, ◌<◌, ◌==◌, ◌&&◌, nat_lt, nat_le, List, [], length, Option, None, Some, slice_index_or, if◌then◌else◌}
 use Rattle.std.specs.BTreeSet.{keys_between}
 use Rattle.std.specs.List.{Contains, fold, slice_get}
 use Rattle.std.specs.List.Sorted.{IsStrictlySortedBy}

@@ -4,6 +4,7 @@
 mod counts;
 mod edges;
 mod homes;
+mod laws;
 mod live;
 mod next;
 mod places;
@@ -14,6 +15,7 @@ mod table;
 mod uses;
 
 pub use bk_func::Memory;
+pub use laws::{has_one_next_use, tells_next_uses};
 pub use live::live_in;
 pub use next::next_use;
 pub use rows::LiveValue;

@@ -1,5 +1,5 @@
 use Rattle.std.proofs.Common.{◌≡◌, length, arith}
-use Rattle.bk_live.proofs.Counting.{counted_none, counted_more, counted_all}
+use Rattle.bk_live.proofs.Counting.{counted_more, counted_all}
 use Rattle.bk_live.proofs.counts.row_of.Goals as goal
 
 pub loop-number-preserved : goal.loop-number-preserved

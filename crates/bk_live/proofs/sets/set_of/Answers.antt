@@ -1,7 +1,5 @@
-use Rattle.std.proofs.Common.{◌≡◌, ap, get_or, true, ℕ}
-use Rattle.std.specs.BTreeMap.{is_at}
+use Rattle.std.proofs.Common.{◌≡◌, get_or, true}
 use Rattle.std.specs.BTreeSet.{contains}
-use Rattle.std.specs.List.{list_any}
 use Rattle.std.proofs.lemmas.Option.{slice_get-get_or}
 use Rattle.bk_live.specs.declared.uses.Use.{Use}
 use Rattle.bk_live.specs.Table.{use_cmp}

@@ -1,4 +1,4 @@
-use Rattle.std.proofs.Common.{◌≡◌, ◌∙◌, ◌∷◌, ◌++◌, [], ap, sym, subst, ℕ, List, map, get_or}
+use Rattle.std.proofs.Common.{◌≡◌, ◌∙◌, ◌∷◌, [], ap, sym, subst, ℕ, List, map, get_or}
 use Rattle.std.proofs.lemmas.List.{get_or-map, map-append}
 use Rattle.bk_live.specs.Counts.{IsCounted}
 use Rattle.bk_live.proofs.Counting.{rows_more}

@@ -1,5 +1,4 @@
-use Rattle.std.proofs.Common.{◌≡◌, ℕ, map, List}
-use Rattle.bk_live.specs.Counts.{AreCounts}
+use Rattle.std.proofs.Common.{map}
 use Rattle.bk_live.proofs.Counting.{RowsUpTo}
 use Rattle.bk_live.proofs.counts.Counts.new.Given as goal
 

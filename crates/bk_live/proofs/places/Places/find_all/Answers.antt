@@ -1,4 +1,4 @@
-use Rattle.std.proofs.Common.{◌∙◌, ap, sym}
+use Rattle.std.proofs.Common.{◌∙◌, ap}
 use Rattle.bk_live.specs.Homes.{place, with_place}
 use Rattle.bk_live.proofs.Edging.{places_more}
 use Rattle.bk_live.proofs.places.Places.find_all.Goals as goal

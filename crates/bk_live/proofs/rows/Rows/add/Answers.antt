@@ -1,4 +1,4 @@
-use Rattle.std.proofs.Common.{◌≡◌, ◌∙◌, sym, ap, ◌<◌, ◌≤◌, ◌∷◌, ◌++◌, [], get_or, set, Some, ℕ, List, length, arith}
+use Rattle.std.proofs.Common.{◌≡◌, ◌∙◌, sym, ap, ◌<◌, ◌≤◌, ◌∷◌, ◌++◌, [], get_or, Some, List, length, arith}
 use Rattle.std.proofs.lemmas.List.{length-map, set_past}
 use Rattle.bk_live.specs.declared.rows.LiveValue.{LiveValue}
 use Rattle.bk_live.specs.Rows.{live_value, with_live}

@@ -1,10 +1,9 @@
 use Rattle.std.proofs.Common.{◌≡◌, ◌∙◌, ◌↔◌, Contains, sym, ap, subst, ℕ, List, map}
-use Rattle.bk_func.specs.Records.{BlockRecord}
 use Rattle.bk_live.specs.declared.uses.Use.{Use}
 use Rattle.bk_live.specs.Edges.{onward}
-use Rattle.bk_live.specs.Homes.{AreHomes, ArePlaces, home, place}
+use Rattle.bk_live.specs.Homes.{home, place}
 use Rattle.bk_live.specs.Prepared.{IsPrepared}
-use Rattle.bk_live.specs.Table.{AreNextUses, use_key}
+use Rattle.bk_live.specs.Table.{use_key}
 use Rattle.bk_live.specs.Uses.{AreUses, use_at}
 use Rattle.bk_live.proofs.Using.{lead_on, used_to, used_from}
 use Rattle.bk_live.proofs.table.Table.new.Goals as goal
