@@ -1,5 +1,5 @@
 -- Starts that are listed by number.
-use Rattle.std.proofs.Common.{◌≡◌, sym, refl, ap, subst, ℕ, ◌≤◌, ◌⊎◌, ◌↔◌, List, [], ◌∷◌, ◌++◌, length, Option, inl, inr, ⊎_elim, arith}
+use Rattle.std.proofs.Common.{◌≡◌, sym, subst, ℕ, ◌≤◌, ◌⊎◌, ◌↔◌, List, [], ◌∷◌, ◌++◌, length, Option, inl, inr, ⊎_elim, arith}
 use Rattle.std.specs.List.{Contains}
 use Rattle.std.proofs.lemmas.Bool.{cases_eq}
 use Rattle.std.proofs.lemmas.List.Elements.{Contains-append_left, Contains-push, Contains-push_cases}
@@ -8,7 +8,7 @@ use Rattle.bk_live.specs.declared.search.Start.{Start}
 use Rattle.bk_live.specs.declared.uses.Use.{Use}
 use Rattle.bk_live.specs.Adds.{Adds, Some_of, Some_before}
 use Rattle.bk_live.specs.Homes.{IsBehind}
-use Rattle.bk_live.specs.Prepared.{Gives, IsStartOf, start_at}
+use Rattle.bk_live.specs.Prepared.{Gives, IsStartOf, start_of}
 use Rattle.bk_live.proofs.Adding.{adds_none, adds_same, before_all}
 use Rattle.bk_live.proofs.Alone.{contains_at, at_contains}
 
@@ -39,9 +39,9 @@ lists_more old new n s here' others = record { each = λ e. (to e.0 e.1, back e.
         (cases_eq n m)
 
 -- no starts at first
-pub starts_none : (lists : ℕ → List Start) (us : List Use) (h : ℕ → Option Spot) → ((n : ℕ) → lists n ≡ [])
-    → Adds (λ (e : ℕ × Start). ⊥) (Some_before us (Gives (IsBehind h)) 0) (λ (e : ℕ × Start). Contains (lists e.0) e.1)
-starts_none lists us h none = record {
+pub starts_none : (counts : List (List ℕ)) (lists : ℕ → List Start) (us : List Use) (h : ℕ → Option Spot) → ((n : ℕ) → lists n ≡ [])
+    → Adds (λ (e : ℕ × Start). ⊥) (Some_before us (Gives counts (IsBehind h)) 0) (λ (e : ℕ × Start). Contains (lists e.0) e.1)
+starts_none counts lists us h none = record {
   each = λ e. (
     (λ c. absurd (nothing e.1 (subst (λ (ss : List Start). Contains ss e.1) (none e.0) c))),
     (λ x. ⊎_elim (λ no. absurd no) (λ (k, u, l, at, g). absurd (omega arith)) x),
@@ -52,39 +52,28 @@ starts_none lists us h none = record {
     nothing s (k, l, e) = absurd (omega arith)
 
 -- all starts once all uses are seen
-pub starts_are : (h : ℕ → Option Spot) (us : List Use) (i : ℕ) (lists : ℕ → List Start) → length us ≤ i
-    → Adds (λ (e : ℕ × Start). ⊥) (Some_before us (Gives (IsBehind h)) i) (λ (e : ℕ × Start). Contains (lists e.0) e.1)
-    → (n : ℕ) (s : Start) → Contains (lists n) s ↔ IsStartOf h us n s
-starts_are h us i lists over a n s = (
+pub starts_are : (counts : List (List ℕ)) (h : ℕ → Option Spot) (us : List Use) (i : ℕ) (lists : ℕ → List Start) → length us ≤ i
+    → Adds (λ (e : ℕ × Start). ⊥) (Some_before us (Gives counts (IsBehind h)) i) (λ (e : ℕ × Start). Contains (lists e.0) e.1)
+    → (n : ℕ) (s : Start) → Contains (lists n) s ↔ IsStartOf h counts us n s
+starts_are counts h us i lists over a n s = (
   (λ c. ⊎_elim
       (λ none. absurd none)
-      (λ (k, u, at, (value, is, ahead)). (
-        u,
-        contains_at us k u at,
-        value,
-        subst (λ (m : ℕ). ¬ IsBehind h m u.spot) value ahead,
-        sym (ap (λ (t : Start). t.place) is),
-        sym (ap (λ (t : Start). t.distance) is),
-      ))
+      (λ (k, u, at, (value, is, ahead)). (u, contains_at us k u at, value, subst (λ (m : ℕ). ¬ IsBehind h m u.spot) value ahead, is))
       ((all.each (n, s)).0 c)),
-  (λ (u, c, value, ahead, block, distance).
+  (λ (u, c, value, ahead, is).
       let (k, at) = at_contains us u c in
-      (all.each (n, s)).1 (inr (k, u, at, (value, built u block distance, subst (λ (m : ℕ). ¬ IsBehind h m u.spot) (sym value) ahead)))),
+      (all.each (n, s)).1 (inr (k, u, at, (value, is, subst (λ (m : ℕ). ¬ IsBehind h m u.spot) (sym value) ahead)))),
 )
   where
-    all : Adds (λ (e : ℕ × Start). ⊥) (Some_of us (Gives (IsBehind h))) (λ (e : ℕ × Start). Contains (lists e.0) e.1)
-    all = before_all (λ (e : ℕ × Start). ⊥) (λ (e : ℕ × Start). Contains (lists e.0) e.1) us (Gives (IsBehind h)) i over a
-
-    built : (u : Use) → s.place ≡ u.spot.block → s.distance ≡ 0 → start_at u.spot.block ≡ s
-    built u block distance =
-        subst (λ (j : ℕ). record { place = j; distance = 0 } ≡ s) block (subst (λ (d : ℕ). record { place = s.place; distance = d } ≡ s) distance refl)
+    all : Adds (λ (e : ℕ × Start). ⊥) (Some_of us (Gives counts (IsBehind h))) (λ (e : ℕ × Start). Contains (lists e.0) e.1)
+    all = before_all (λ (e : ℕ × Start). ⊥) (λ (e : ℕ × Start). Contains (lists e.0) e.1) us (Gives counts (IsBehind h)) i over a
 
 -- a use that is behind the definition gives none
-pub gives_none : (h : ℕ → Option Spot) (k : ℕ) (u : Use) (P : ℕ × Start → Type 0) → IsBehind h u.value u.spot → Adds P (Gives (IsBehind h) k u) P
-gives_none h k u P behind = adds_none P (Gives (IsBehind h) k u) (λ e (value, is, ahead). ahead behind)
+pub gives_none : (counts : List (List ℕ)) (h : ℕ → Option Spot) (k : ℕ) (u : Use) (P : ℕ × Start → Type 0) → IsBehind h u.value u.spot → Adds P (Gives counts (IsBehind h) k u) P
+gives_none counts h k u P behind = adds_none P (Gives counts (IsBehind h) k u) (λ e (value, is, ahead). ahead behind)
 
-pub gives_one : (h : ℕ → Option Spot) (k : ℕ) (u : Use) (P Q : ℕ × Start → Type 0) → ¬ IsBehind h u.value u.spot
-    → Adds P (λ (e : ℕ × Start). (u.value ≡ e.0) × (start_at u.spot.block ≡ e.1)) Q → Adds P (Gives (IsBehind h) k u) Q
-gives_one h k u P Q ahead a =
-    adds_same P (λ (e : ℕ × Start). (u.value ≡ e.0) × (start_at u.spot.block ≡ e.1)) (Gives (IsBehind h) k u) Q
+pub gives_one : (counts : List (List ℕ)) (h : ℕ → Option Spot) (k : ℕ) (u : Use) (P Q : ℕ × Start → Type 0) → ¬ IsBehind h u.value u.spot
+    → Adds P (λ (e : ℕ × Start). (u.value ≡ e.0) × (start_of counts u.spot ≡ e.1)) Q → Adds P (Gives counts (IsBehind h) k u) Q
+gives_one counts h k u P Q ahead a =
+    adds_same P (λ (e : ℕ × Start). (u.value ≡ e.0) × (start_of counts u.spot ≡ e.1)) (Gives counts (IsBehind h) k u) Q
     (λ e. ((λ (value, is). (value, is, ahead)), (λ (value, is, other). (value, is)))) a

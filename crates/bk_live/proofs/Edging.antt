@@ -1,12 +1,13 @@
 -- Edges that are added one by one.
-use Rattle.std.proofs.Common.{◌≡◌, ◌∙◌, sym, refl, ap, subst, ℕ, ◌+◌, ◌<◌, ◌≤◌, ◌⊎◌, ◌↔◌, List, [], ◌∷◌, ◌++◌, length, get_or, set, replicate, map, Option, Some, inl, inr, ⊎_elim, arith}
-use Rattle.std.specs.List.{Contains, slice_get}
+use Rattle.std.proofs.Common.{◌≡◌, ◌∙◌, sym, refl, ap, subst, ℕ, ◌+◌, ◌<◌, ◌≤◌, ◌⊎◌, ◌↔◌, List, [], ◌∷◌, ◌++◌, length, get_or, set, replicate, map, take, append-nil, Option, None, Some, inl, inr, ⊎_elim, arith}
+use Rattle.std.specs.List.{Contains, filter_map, slice_get}
 use Rattle.std.proofs.lemmas.Bool.{cases_eq, cases_lt}
-use Rattle.std.proofs.lemmas.List.{get_or_past, get_or-replicate, get_or-set_other, get_or-set_same, length-replicate, length-set, map-append, map-set, get_or-map, replicate-append-replicate}
-use Rattle.std.proofs.lemmas.List.Elements.{Contains-append_left, Contains-push, Contains-push_cases}
+use Rattle.std.proofs.lemmas.List.{get_or_past, get_or-replicate, get_or-set_other, get_or-set_same, length-replicate, length-set, map-append, map-set, get_or-map, replicate-append-replicate, take_more}
+use Rattle.std.proofs.lemmas.List.Elements.{Contains-append_left, Contains-push, Contains-push_cases, filter_map-append}
 use Rattle.std.proofs.lemmas.Option.{slice_get_within}
 use Rattle.bk_func.specs.Records.{BlockRecord}
 use Rattle.bk_live.specs.Adds.{Some_of, Some_before}
+use Rattle.bk_live.specs.Homes.{with_place}
 use Rattle.bk_live.specs.Edges.{IsEdge, edge_in, AddsEdges, IsNamed, AreBackward}
 use Rattle.bk_live.proofs.Adding.{adds_none, adds_same, before_more}
 
@@ -15,9 +16,9 @@ pub lists_more : {A B : Type 0} (h : A → B) (old new : List A) (v : A) (n : �
 lists_more h old new v n e before after is =
     ap (map h) after ∙ (map-append h old (v ∷ []) ∙ (ap (λ us. us ++ h v ∷ []) before ∙ (ap (λ x. replicate n e ++ x ∷ []) is ∙ replicate-append-replicate n 1 e)))
 
-pub edge_more : {A : Type 0} (h : A → List ℕ) (ls : List A) (i to : ℕ) (old new : A) (es : List (List ℕ)) → map h ls ≡ es → i < length ls → old ≡ get_or ls i old → h new ≡ h old ++ to ∷ []
+pub edge_more : {A B : Type 0} (h : A → List B) (ls : List A) (i : ℕ) (to : B) (old new : A) (es : List (List B)) → map h ls ≡ es → i < length ls → old ≡ get_or ls i old → h new ≡ h old ++ to ∷ []
     → map h (set ls i new) ≡ set es i (get_or es i [] ++ to ∷ [])
-edge_more h ls i to old new es view within e grown =
+edge_more {A} {B} h ls i to old new es view within e grown =
     let here : h old ≡ get_or (map h ls) i [] = ap h e ∙ sym (get_or-map h ls i old [] within) in
     map-set h ls i new ∙ (ap (set (map h ls) i) (grown ∙ ap (λ us. us ++ to ∷ []) here) ∙ ap (λ us. set us i (get_or us i [] ++ to ∷ [])) view)
 
@@ -109,3 +110,14 @@ backward_is bs m es i over a = record {
     (λ (w, (b, at, named)). (a.adds.each (p, q)).1 (inr (omega (arith, length-replicate {A = List ℕ} (length bs) []), (q, b, (let l : q < length bs = slice_get_within bs q b at in omega arith), at, (named, refl))))),
   );
 }
+
+-- the places of numbers: one more number
+pub places_more : (m : ℕ → Option ℕ) (ns ps qs : List ℕ) (i : ℕ) → i < length ns → ps ≡ filter_map m (take i ns) → qs ≡ with_place ps (m (get_or ns i 0)) → qs ≡ filter_map m (take (i + 1) ns)
+places_more m ns ps qs i inside before is = go (m (get_or ns i 0)) refl is
+  where
+    whole : filter_map m (take (i + 1) ns) ≡ filter_map m (take i ns) ++ filter_map m (get_or ns i 0 ∷ [])
+    whole = ap (filter_map m) (take_more ns i 0 inside) ∙ filter_map-append m (take i ns) (get_or ns i 0 ∷ [])
+
+    go : (o : Option ℕ) → m (get_or ns i 0) ≡ o → qs ≡ with_place ps o → qs ≡ filter_map m (take (i + 1) ns)
+    go None e same = same ∙ (before ∙ sym (whole ∙ (rw e (append-nil (filter_map m (take i ns))))))
+    go (Some q) e same = same ∙ (ap (λ us. us ++ q ∷ []) before ∙ sym (whole ∙ (rw e refl)))

@@ -1,5 +1,5 @@
 -- The entries of a map of numbers, one after the other.
-use Rattle.std.proofs.Common.{◌≡◌, ◌∙◌, sym, refl, ap, subst, ℕ, ◌+◌, ◌<◌, ◌↔◌, List, [], ◌∷◌, ◌++◌, append_assoc, append-nil, length, get_or, replicate, Option, None, Some, arith}
+use Rattle.std.proofs.Common.{◌≡◌, ◌∙◌, sym, refl, ap, subst, ℕ, ◌+◌, ◌<◌, ◌↔◌, List, [], ◌∷◌, ◌++◌, append_assoc, append-nil, length, get_or, map, replicate, Option, None, Some, arith}
 use Rattle.std.specs.BTreeMap.{is_at}
 use Rattle.std.specs.List.{All, Contains}
 use Rattle.std.specs.List.Sorted.{IsStrictlySortedBy}
@@ -13,17 +13,20 @@ use Rattle.std.proofs.lemmas.Option.{slice_get-map}
 use Rattle.std.specs.Option.{option_map}
 use Rattle.bk_func.specs.Records.{FuncRecord}
 use Rattle.bk_live.specs.declared.homes.Spot.{Spot}
+use Rattle.bk_live.specs.declared.rows.LiveValue.{LiveValue}
+use Rattle.bk_live.specs.declared.search.Search.{Search}
 use Rattle.bk_live.specs.declared.search.Start.{Start}
 use Rattle.bk_live.specs.declared.uses.Use.{Use}
-use Rattle.bk_live.specs.Live.{AreLive}
-use Rattle.bk_live.specs.Prepared.{IsPrepared, IsStartOf, IsReachedFor, home_or}
-use Rattle.bk_live.specs.Rows.{AddsReached, HasRows}
+use Rattle.bk_live.specs.Counts.{AreCounts, length_of}
+use Rattle.bk_live.specs.Prepared.{FoundFor, IsPrepared, IsStartOf, home_or}
+use Rattle.bk_live.specs.Rows.{AddsFound, HasRows}
+use Rattle.bk_live.specs.Search.{Finds, Found, from, onward}
 use Rattle.bk_live.specs.Seen.{LeadBack}
-use Rattle.bk_live.specs.Search.{Found, from, onward}
+use Rattle.bk_live.specs.Table.{AreNextUses}
 use Rattle.bk_live.proofs.Alone.{contains_at}
 use Rattle.bk_live.proofs.Homing.{is_at_number}
 use Rattle.bk_live.proofs.Rowing.{has_none, has_more}
-use Rattle.bk_live.proofs.Living.{live_to, live_from}
+use Rattle.bk_live.proofs.Spreading.{IsScanned, found_leads, scanned, walks_found}
 
 at_end : {A : Type 0} (xs ys : List A) (x d : A) → get_or (xs ++ x ∷ ys) (length xs) d ≡ x
 at_end [] ys x d = refl
@@ -62,25 +65,29 @@ key_there {V} es n v e =
     (contains_at (keys_of es) i k (slice_get-map (λ (p : ℕ × V). p.0) es i ∙ ap (option_map (λ (p : ℕ × V). p.0)) at))
 
 -- a search that finds a place has a start
-pub has_start : (es : List (List ℕ)) (ws : List (Option ℕ)) (avoided : ℕ) (starts : List Start) (i d : ℕ) → Found es ws avoided starts i d → (s : Start) × Contains starts s
+pub has_start : (es : List (List ℕ)) (ws : List ℕ) (avoided : ℕ) (starts : List Start) (i d : ℕ) → Found es ws avoided starts i d → (s : Start) × Contains starts s
 has_start es ws avoided starts _ _ (from s c inside) = (s, c)
 has_start es ws avoided starts _ _ (onward p q d w found edge inside at) = has_start es ws avoided starts p d found
 
 -- the rows once all numbers are added
-pub rows_live : {f : FuncRecord} {os : List (List ℕ)} {h : ℕ → Option Spot} {p : ℕ → Option ℕ} {us : List Use} → IsPrepared f os h p us → {es : List (List ℕ)} → LeadBack f es → (starts : ℕ → List Start)
-    → ((n : ℕ) (s : Start) → Contains (starts n) s ↔ IsStartOf h us n s) → (ns : List ℕ) → ((n : ℕ) (s : Start) → Contains (starts n) s → Contains ns n) → (rows : List (List ℕ))
-    → HasRows (λ n i. IsReachedFor h es (starts n) n i) (length f.blocks) ns rows → AreLive f os rows
-rows_live {f} {os} {h} {p} {us} r {es} back starts are ns there rows has = record {
+pub rows_live : {f : FuncRecord} {os : List (List ℕ)} {h : ℕ → Option Spot} {p : ℕ → Option ℕ} {us : List Use} → IsPrepared f os h p us → (counts : List (List ℕ)) → AreCounts f os counts
+    → (es : List (List ℕ)) → LeadBack f es → (ws : List ℕ) → ws ≡ map length_of counts → (starts : ℕ → List Start)
+    → ((n : ℕ) (s : Start) → Contains (starts n) s ↔ IsStartOf h counts us n s) → (ns : List ℕ) → ((n : ℕ) (s : Start) → Contains (starts n) s → Contains ns n) → (rows : List (List LiveValue))
+    → HasRows (λ n. FoundFor h es ws (starts n) n) (length f.blocks) ns rows → AreNextUses f os rows
+rows_live {f} {os} {h} {p} {us} r counts are es back ws lengths starts begun ns there rows has = record {
   size = has.size;
-  rising = has.rising;
-  each = λ i n l. (
-    (λ c. let (m, (d, found)) = (has.each i n l).0 c in live_to r back n (starts n) (λ s cs. (are n s).0 cs) i d found),
-    (λ live.
-        let reached : IsReachedFor h es (starts n) n i = live_from r back n (starts n) (λ s is. (are n s).1 is) i live in
-        let (s, c) = has_start es [] (home_or (h n) (length es)) (starts n) i reached.0 reached.1 in
-        (has.each i n l).1 (there n s c, reached)),
-  );
+  leads = λ i l inside c.
+      let (k, found) = has.sound i l inside c in
+      found_leads f os l.value es ws (home_or (h l.value) (length es)) (starts l.value) back (scan l.value) i l.distance found;
+  least = λ i n m inside walk.
+      let (d, found, low) = walks_found f os n es ws (home_or (h n) (length es)) (starts n) back (scan n) (m + 1) i m inside (omega arith) walk in
+      let (s, c) = has_start es ws (home_or (h n) (length es)) (starts n) i d found in
+      let (e, in_row, less) = has.least i n d inside (there n s c) found in
+      (e, in_row, omega arith);
 }
+  where
+    scan : (n : ℕ) → IsScanned f os n ws (home_or (h n) (length es)) (starts n)
+    scan n = scanned r counts are es back ws lengths n (starts n) (begun n)
 
 -- a list that is there stands at its key
 pub has_key : {V : Type 0} (es : List (ℕ × V)) (n : ℕ) (lists : Option V → List Start) (s : Start) → lists None ≡ [] → Contains (lists (lookup (is_at (nat_cmp n)) es)) s → Contains (keys_of es) n
@@ -94,29 +101,28 @@ has_key {V} es n lists s none c = go (lookup (is_at (nat_cmp n)) es) refl
     go (Some v) e = key_there es n v e
 
 -- the rows after the entries of a map that come before the rest
-pub record RowsSoFar {V : Type 0} (R : ℕ → ℕ → Type 0) (count : ℕ) (es rest : List (ℕ × V)) (rows : List (List ℕ)) : Type 0 where
+pub record RowsSoFar {V : Type 0} (F : ℕ → ℕ → ℕ → Type 0) (count : ℕ) (es rest : List (ℕ × V)) (rows : List (List LiveValue)) : Type 0 where
   pub front : List (ℕ × V)
   pub whole : es ≡ front ++ rest
-  pub has : HasRows R count (keys_of front) rows
+  pub has : HasRows F count (keys_of front) rows
 
-pub rows_first : {V : Type 0} (R : ℕ → ℕ → Type 0) (count : ℕ) (es rest : List (ℕ × V)) (rows : List (List ℕ)) → rest ≡ es → rows ≡ replicate count [] → RowsSoFar R count es rest rows
-rows_first {V} R count es rest rows same none = record { front = []; whole = sym same; has = has_none R count rows none }
+pub rows_first : {V : Type 0} (F : ℕ → ℕ → ℕ → Type 0) (count : ℕ) (es rest : List (ℕ × V)) (rows : List (List LiveValue)) → rest ≡ es → rows ≡ replicate count [] → RowsSoFar F count es rest rows
+rows_first {V} F count es rest rows same none = record { front = []; whole = sym same; has = has_none F count rows none }
 
-pub rows_next : {V : Type 0} (R : ℕ → ℕ → Type 0) (S : ℕ → Type 0) (count : ℕ) (es rest later : List (ℕ × V)) (k : ℕ) (v : V) (rows more : List (List ℕ)) → IsStrictlySortedBy nat_cmp (keys_of es)
-    → rest ≡ (k, v) ∷ later → RowsSoFar R count es rest rows → (g : ℕ → Option V) → All (λ (p : ℕ × V). g p.0 ≡ Some p.1) es → (g k ≡ Some v → (i : ℕ) → S i ↔ R k i) → AddsReached S count k rows more
-    → RowsSoFar R count es later more
-rows_next {V} R S count es rest later k v rows more sorted step so g all same a =
+pub rows_next : {V : Type 0} (F : ℕ → ℕ → ℕ → Type 0) (count : ℕ) (es rest later : List (ℕ × V)) (k : ℕ) (v : V) (s : Search) (rows more : List (List LiveValue)) → IsStrictlySortedBy nat_cmp (keys_of es)
+    → rest ≡ (k, v) ∷ later → RowsSoFar F count es rest rows → (g : ℕ → Option V) → All (λ (p : ℕ × V). g p.0 ≡ Some p.1) es → (g k ≡ Some v → Finds (F k) count s) → AddsFound k s rows more
+    → RowsSoFar F count es later more
+rows_next {V} F count es rest later k v s rows more sorted step so g all finds a =
     let whole : es ≡ so.front ++ (k, v) ∷ later = so.whole ∙ ap (λ us. so.front ++ us) step in
     let above : (m : ℕ) → Contains (keys_of so.front) m → m < k = keys_below so.front later (k, v) (subst (λ (us : List (ℕ × V)). IsStrictlySortedBy nat_cmp (keys_of us)) whole sorted) in
     let at : g k ≡ Some v = entry_is es so.front later (k, v) g all whole in
-    let has : HasRows R count (keys_of so.front ++ k ∷ []) more =
-    has_more R count (keys_of so.front) k a.places rows more so.has above (λ i l. ((λ c. (same at i).0 ((a.is i).0 c)), (λ r. (a.is i).1 ((same at i).1 r)))) a.within a.adds in
+    let has : HasRows F count (keys_of so.front ++ k ∷ []) more = has_more F count (keys_of so.front) k s rows more so.has above (finds at) a in
     record {
       front = so.front ++ (k, v) ∷ [];
       whole = whole ∙ sym (append_assoc so.front ((k, v) ∷ []) later);
-      has = subst (λ (ns : List ℕ). HasRows R count ns more) (sym (keys_push so.front (k, v))) has;
+      has = subst (λ (ns : List ℕ). HasRows F count ns more) (sym (keys_push so.front (k, v))) has;
     }
 
-pub rows_last : {V : Type 0} (R : ℕ → ℕ → Type 0) (count : ℕ) (es rest : List (ℕ × V)) (rows : List (List ℕ)) → rest ≡ [] → RowsSoFar R count es rest rows → HasRows R count (keys_of es) rows
-rows_last {V} R count es rest rows none so =
-    subst (λ (us : List (ℕ × V)). HasRows R count (keys_of us) rows) (sym (so.whole ∙ (ap (λ us. so.front ++ us) none ∙ append-nil so.front))) so.has
+pub rows_last : {V : Type 0} (F : ℕ → ℕ → ℕ → Type 0) (count : ℕ) (es rest : List (ℕ × V)) (rows : List (List LiveValue)) → rest ≡ [] → RowsSoFar F count es rest rows → HasRows F count (keys_of es) rows
+rows_last {V} F count es rest rows none so =
+    subst (λ (us : List (ℕ × V)). HasRows F count (keys_of us) rows) (sym (so.whole ∙ (ap (λ us. so.front ++ us) none ∙ append-nil so.front))) so.has

@@ -1,40 +1,32 @@
--- Rows to which numbers are added.
-use Rattle.std.proofs.Common.{◌≡◌, ◌∙◌, sym, refl, ap, subst, ℕ, ◌+◌, ◌<◌, ◌≤◌, ◌⊎◌, ◌↔◌, List, [], ◌∷◌, ◌++◌, length, get_or, set, take, replicate, inl, inr, ⊎_elim, arith}
+-- Rows to which live values are added.
+use Rattle.std.proofs.Common.{◌≡◌, ◌∙◌, sym, refl, ap, subst, ℕ, ◌+◌, ◌<◌, ◌≤◌, ◌⊎◌, List, [], ◌∷◌, ◌++◌, length, get_or, set, take, replicate, Option, None, Some, ⊎_elim, arith}
 use Rattle.std.specs.List.{AllPairs, Contains}
 use Rattle.std.proofs.lemmas.Bool.{cases_eq, cases_lt}
 use Rattle.std.proofs.lemmas.List.{get_or_past, get_or-replicate, get_or-set_other, get_or-set_same, get_or_append_left, get_or_default, get_or_push, get_or-take, length-take-le, length-replicate, length-set, length_push, take_more, take_all}
-use Rattle.std.proofs.lemmas.List.Elements.{Contains-append_left, Contains-append_right, Contains-append_cases, Contains-push, Contains-push_cases, Contains-get_or}
-use Rattle.bk_live.specs.Rows.{AddsNumber, HasRows}
+use Rattle.std.proofs.lemmas.List.Elements.{Contains-append_left, Contains-push, Contains-push_cases, Contains-get_or}
+use Rattle.std.proofs.lemmas.Option.{none-some, same_Some}
+use Rattle.bk_live.specs.declared.rows.LiveValue.{LiveValue}
+use Rattle.bk_live.specs.declared.search.Search.{Search}
+use Rattle.bk_live.specs.declared.search.Start.{Start}
+use Rattle.bk_live.specs.Rows.{AddsFound, HasLiveUpTo, HasRows, IsRising, live_value, with_live}
+use Rattle.bk_live.specs.Search.{Finds, Found, IsClear, IsReady, Marks, distance}
+use Rattle.bk_live.proofs.Searching.{marks_none}
 
--- the first k of the places have the number
-pub rows_none : (n : ℕ) (places : List ℕ) (rows : List (List ℕ)) → AddsNumber n (take 0 places) rows rows
-rows_none n places rows = record { size = refl; same = λ i a. refl; longer = λ i l (k, b, e). absurd (omega arith) }
+-- the rows at these places have the value
+pub record AddsAt (n : ℕ) (s : Search) (places : List ℕ) (rows more : List (List LiveValue)) : Type 0 where
+  pub size : length more ≡ length rows
+  pub same : (i : ℕ) → ¬ Contains places i → get_or more i [] ≡ get_or rows i []
+  pub longer : (i d : ℕ) → i < length rows → Contains places i → distance s i ≡ Some d → get_or more i [] ≡ get_or rows i [] ++ live_value n d ∷ []
 
-pub rows_more : (n : ℕ) (places : List ℕ) (k : ℕ) (rows more : List (List ℕ)) → AllPairs (λ p q. p ≡ q → ⊥) places → k < length places → AddsNumber n (take k places) rows more
-    → AddsNumber n (take (k + 1) places) rows (set more (get_or places k 0) (get_or more (get_or places k 0) [] ++ n ∷ []))
-rows_more n places k rows more apart inside a = record {
-  size = length-set more x row ∙ a.size;
-  same = λ i none.
-      let other : i ≡ x → ⊥ = λ e. none (subst (λ (j : ℕ). Contains (take (k + 1) places) j) (sym e) last) in
-      get_or-set_other more x i row [] other ∙ a.same i (λ c. none (earlier i c));
-  longer = λ i l c. ⊎_elim
-      (λ (e : i ≡ x).
-      ap (λ j. get_or (set more x row) j []) e
-      ∙ (get_or-set_same more x row [] (omega (arith, a.size))
-      ∙ (ap (λ us. us ++ n ∷ []) (a.same x new) ∙ ap (λ j. get_or rows j [] ++ n ∷ []) (sym e))))
-      (λ (other : i ≡ x → ⊥).
-      get_or-set_other more x i row [] other ∙ ⊎_elim
-      (λ old. a.longer i l old)
-      (λ (e : x ≡ i). absurd (other (sym e)))
-      (Contains-push_cases (take k places) x i (subst (λ (us : List ℕ). Contains us i) (take_more places k 0 inside) c)))
-      (cases_eq i x);
-}
+pub adds_first : (n : ℕ) (s : Search) (places : List ℕ) (rows : List (List LiveValue)) → AddsAt n s (take 0 places) rows rows
+adds_first n s places rows = record { size = refl; same = λ i a. refl; longer = λ i d l (k, b, e). absurd (omega arith) }
+
+pub adds_next : (n : ℕ) (s : Search) (places : List ℕ) (k : ℕ) (rows more most : List (List LiveValue)) → AllPairs (λ p q. p ≡ q → ⊥) places → k < length places
+    → most ≡ with_live more (get_or places k 0) n (distance s (get_or places k 0)) → AddsAt n s (take k places) rows more → AddsAt n s (take (k + 1) places) rows most
+adds_next n s places k rows more most apart inside is a = go (distance s x) refl is
   where
     x : ℕ
     x = get_or places k 0
-
-    row : List ℕ
-    row = get_or more x [] ++ n ∷ []
 
     last : Contains (take (k + 1) places) x
     last = subst (λ (us : List ℕ). Contains us x) (sym (take_more places k 0 inside)) (Contains-push (take k places) x)
@@ -42,105 +34,144 @@ rows_more n places k rows more apart inside a = record {
     earlier : (i : ℕ) → Contains (take k places) i → Contains (take (k + 1) places) i
     earlier i c = subst (λ (us : List ℕ). Contains us i) (sym (take_more places k 0 inside)) (Contains-append_left (take k places) (x ∷ []) i c)
 
+    cases : (i : ℕ) → Contains (take (k + 1) places) i → Contains (take k places) i ⊎ (x ≡ i)
+    cases i c = Contains-push_cases (take k places) x i (subst (λ (us : List ℕ). Contains us i) (take_more places k 0 inside) c)
+
     new : ¬ Contains (take k places) x
     new (j, l, e) =
         let short : length (take k places) ≡ k = length-take-le k places (omega arith) in
         let low : j < k = omega arith in
         apart j k x low inside (sym (get_or-take k places j x low) ∙ (e ∙ get_or_default places k 0 x inside))
 
-pub rows_all : (n : ℕ) (places : List ℕ) (k : ℕ) (rows more : List (List ℕ)) → length places ≤ k → AddsNumber n (take k places) rows more → AddsNumber n places rows more
-rows_all n places k rows more over a = subst (λ (us : List ℕ). AddsNumber n us rows more) (take_all k places over) a
+    go : (o : Option ℕ) → distance s x ≡ o → most ≡ with_live more x n o → AddsAt n s (take (k + 1) places) rows most
+    go None none same = subst (λ (rs : List (List LiveValue)). AddsAt n s (take (k + 1) places) rows rs) (sym same) (record {
+      size = a.size;
+      same = λ i out. a.same i (λ c. out (earlier i c));
+      longer = λ i d l c e. ⊎_elim
+          (λ old. a.longer i d l old e)
+          (λ (here : x ≡ i). absurd (none-some d (sym none ∙ (ap (distance s) here ∙ e))))
+          (cases i c);
+    })
+    go (Some w) at same = subst (λ (rs : List (List LiveValue)). AddsAt n s (take (k + 1) places) rows rs) (sym same) (record {
+      size = length-set more x row ∙ a.size;
+      same = λ i out.
+          let other : i ≡ x → ⊥ = λ e. out (subst (λ (j : ℕ). Contains (take (k + 1) places) j) (sym e) last) in
+          get_or-set_other more x i row [] other ∙ a.same i (λ c. out (earlier i c));
+      longer = λ i d l c e. ⊎_elim
+          (λ (here : i ≡ x).
+          let both : w ≡ d = same_Some w d (sym at ∙ (ap (distance s) (sym here) ∙ e)) in
+          ap (λ j. get_or (set more x row) j []) here
+          ∙ (get_or-set_same more x row [] (omega (arith, a.size))
+          ∙ (ap (λ us. us ++ live_value n w ∷ []) (a.same x new)
+          ∙ (ap (λ j. get_or rows j [] ++ live_value n w ∷ []) (sym here) ∙ ap (λ v. get_or rows i [] ++ live_value n v ∷ []) both))))
+          (λ (other : i ≡ x → ⊥).
+          get_or-set_other more x i row [] other ∙ ⊎_elim
+          (λ old. a.longer i d l old e)
+          (λ (same_one : x ≡ i). absurd (other (sym same_one)))
+          (cases i c))
+          (cases_eq i x);
+    })
+      where
+        row : List LiveValue
+        row = get_or more x [] ++ live_value n w ∷ []
 
-nothing : (n p : ℕ) → get_or {A = List ℕ} (replicate n []) p [] ≡ []
+pub adds_all : (n : ℕ) (s : Search) (places : List ℕ) (k : ℕ) (rows more : List (List LiveValue)) → length places ≤ k → Marks s.distances.items places → AddsAt n s (take k places) rows more
+    → AddsFound n s rows more
+adds_all n s places k rows more over marks a = record {
+  size = a.size;
+  same = λ i none. a.same i (λ c. let (d, e) = (marks.listed i).0 (whole i c) in none-some d (sym none ∙ e));
+  longer = λ i d l e. a.longer i d l (subst (λ (us : List ℕ). Contains us i) (sym (take_all k places over)) ((marks.listed i).1 (d, e))) e;
+}
+  where
+    whole : (i : ℕ) → Contains (take k places) i → Contains places i
+    whole i c = subst (λ (us : List ℕ). Contains us i) (take_all k places over) c
+
+nothing : (n p : ℕ) → get_or {A = List LiveValue} (replicate n []) p [] ≡ []
 nothing n p = ⊎_elim (λ (b : p < n). get_or-replicate n p [] [] b) (λ a. get_or_past (replicate n []) p [] (rw length-replicate a)) (cases_lt p n)
 
-none_in : (x : ℕ) → Contains [] x → ⊥
+none_in : {A : Type 0} (x : A) → Contains [] x → ⊥
 none_in x (k, l, e) = absurd (omega arith)
 
--- no numbers
-pub has_none : (R : ℕ → ℕ → Type 0) (count : ℕ) (rows : List (List ℕ)) → rows ≡ replicate count [] → HasRows R count [] rows
-has_none R count rows none = record {
+-- no values
+pub has_none : (F : ℕ → ℕ → ℕ → Type 0) (count : ℕ) (rows : List (List LiveValue)) → rows ≡ replicate count [] → HasRows F count [] rows
+has_none F count rows none = record {
   size = ap length none ∙ length-replicate count [];
-  each = λ i n l. ((λ c. absurd (none_in n (subst (λ (us : List ℕ). Contains us n) (at i) c))), (λ (c, r). absurd (none_in n c)));
-  rising = λ i. subst (λ (us : List ℕ). AllPairs (λ m n. m < n) us) (sym (at i)) (λ j k d l h. absurd (omega arith));
+  sound = λ i l b c. absurd (none_in l (subst (λ (us : List LiveValue). Contains us l) (at i) c));
+  least = λ i n d b c found. absurd (none_in n c);
+  rising = λ i. subst (λ (us : List LiveValue). IsRising us) (sym (at i)) (λ j k d l h. absurd (omega arith));
 }
   where
     at : (i : ℕ) → get_or rows i [] ≡ []
     at i = ap (λ us. get_or us i []) none ∙ nothing count i
 
 -- a greater number behind rising ones
-rising_push : (xs : List ℕ) (x : ℕ) → ((m : ℕ) → Contains xs m → m < x) → AllPairs (λ m n. m < n) xs → AllPairs (λ m n. m < n) (xs ++ x ∷ [])
+rising_push : (xs : List LiveValue) (x : LiveValue) → ((l : LiveValue) → Contains xs l → l.value < x.value) → IsRising xs → IsRising (xs ++ x ∷ [])
 rising_push xs x above rising i j d low high = ⊎_elim
     (λ (early : j < length xs).
     let a : get_or (xs ++ x ∷ []) i d ≡ get_or xs i d = get_or_append_left xs (x ∷ []) d i (omega arith) in
     let b : get_or (xs ++ x ∷ []) j d ≡ get_or xs j d = get_or_append_left xs (x ∷ []) d j early in
-    let l : get_or xs i d < get_or xs j d = rising i j d low early in
-    omega (arith, a, b))
+    rw (a, b) (rising i j d low early))
     (λ (late : length xs ≤ j).
     let last : j ≡ length xs = omega (arith, length_push xs x) in
     let front : i < length xs = omega arith in
     let a : get_or (xs ++ x ∷ []) i d ≡ get_or xs i d = get_or_append_left xs (x ∷ []) d i front in
     let b : get_or (xs ++ x ∷ []) j d ≡ x = get_or_push xs x d j (sym last) in
-    let l : get_or xs i d < x = above (get_or xs i d) (Contains-get_or xs i d front) in
-    omega (arith, a, b))
+    rw (a, b) (above (get_or xs i d) (Contains-get_or xs i d front)))
     (cases_lt j (length xs))
 
-contains_or : (xs : List ℕ) (x : ℕ) → Contains xs x ⊎ ¬ Contains xs x
-contains_or [] x = inr (none_in x)
-contains_or (y ∷ xs) x = ⊎_elim
-    (λ (same : y ≡ x). inl (0, omega arith, same))
-    (λ (apart : y ≡ x → ⊥). ⊎_elim
-    (λ later. inl (Contains-append_right (y ∷ []) xs x later))
-    (λ none. inr (λ c. ⊎_elim
-    (λ (first : Contains (y ∷ []) x). apart (alone y x first))
-    (λ later. none later)
-    (Contains-append_cases (y ∷ []) xs x c)))
-    (contains_or xs x))
-    (cases_eq y x)
-  where
-    alone : (y x : ℕ) → Contains (y ∷ []) x → y ≡ x
-    alone y x (k, l, e) = let z : k ≡ 0 = omega arith in subst (λ (j : ℕ). get_or (y ∷ []) j x ≡ x) z e
-
--- one more number, which is greater, at the places where R says it
-pub has_more : (R : ℕ → ℕ → Type 0) (count : ℕ) (ns : List ℕ) (n : ℕ) (places : List ℕ) (rows more : List (List ℕ)) → HasRows R count ns rows → ((m : ℕ) → Contains ns m → m < n)
-    → ((i : ℕ) → i < count → Contains places i ↔ R n i) → ((i : ℕ) → Contains places i → i < count) → AddsNumber n places rows more → HasRows R count (ns ++ n ∷ []) more
-has_more R count ns n places rows more h above is within a = record {
+-- one more value, of a greater number, where the search has found it
+pub has_more : (F : ℕ → ℕ → ℕ → Type 0) (count : ℕ) (ns : List ℕ) (n : ℕ) (s : Search) (rows more : List (List LiveValue)) → HasRows F count ns rows → ((m : ℕ) → Contains ns m → m < n)
+    → Finds (F n) count s → AddsFound n s rows more → HasRows F count (ns ++ n ∷ []) more
+has_more F count ns n s rows more h above finds a = record {
   size = a.size ∙ h.size;
-  each = λ i m l. (to i m l, back i m l);
-  rising = λ i. row_rises i;
+  sound = λ i l b c. sound i l b (distance s i) refl c;
+  least = λ i m d b c found. ⊎_elim
+      (λ old. still i m d b (distance s i) refl (h.least i m d b old found))
+      (λ (new : n ≡ m).
+      let (e, has, low) = finds.least i d (subst (λ (k : ℕ). F k i d) (sym new) found) in
+      (e, subst (λ (k : ℕ). Contains (get_or more i []) (live_value k e)) new (there i e b has), low))
+      (Contains-push_cases ns n m c);
+  rising = λ i. ⊎_elim
+      (λ (b : i < count). rises i b (distance s i) refl)
+      (λ (past : count ≤ i). subst (λ (us : List LiveValue). IsRising us) (sym (get_or_past more i [] (omega (arith, a.size, h.size)))) (λ j k d l e. absurd (omega arith)))
+      (cases_lt i count);
 }
   where
-    place_or : (i : ℕ) → i < count → Contains places i ⊎ ¬ Contains places i
-    place_or i l = contains_or places i
+    long : (i d : ℕ) → i < count → distance s i ≡ Some d → get_or more i [] ≡ get_or rows i [] ++ live_value n d ∷ []
+    long i d b e = a.longer i d (omega (arith, h.size)) e
 
-    to : (i m : ℕ) → i < count → Contains (get_or more i []) m → Contains (ns ++ n ∷ []) m × R m i
-    to i m l c = ⊎_elim
-        (λ (here : Contains places i). ⊎_elim
-        (λ old. let (b, r) = (h.each i m l).0 old in (Contains-append_left ns (n ∷ []) m b, r))
-        (λ (new : n ≡ m). (subst (λ (k : ℕ). Contains (ns ++ n ∷ []) k) new (Contains-push ns n), subst (λ (k : ℕ). R k i) new ((is i l).0 here)))
-        (Contains-push_cases (get_or rows i []) n m (subst (λ (us : List ℕ). Contains us m) (a.longer i (omega (arith, h.size)) here) c)))
-        (λ (away : ¬ Contains places i).
-        let (b, r) = (h.each i m l).0 (subst (λ (us : List ℕ). Contains us m) (a.same i away) c) in (Contains-append_left ns (n ∷ []) m b, r))
-        (place_or i l)
+    there : (i d : ℕ) → i < count → distance s i ≡ Some d → Contains (get_or more i []) (live_value n d)
+    there i d b e = subst (λ (us : List LiveValue). Contains us (live_value n d)) (sym (long i d b e)) (Contains-push (get_or rows i []) (live_value n d))
 
-    back : (i m : ℕ) → i < count → Contains (ns ++ n ∷ []) m × R m i → Contains (get_or more i []) m
-    back i m l (c, r) = ⊎_elim
-        (λ old.
-        let before : Contains (get_or rows i []) m = (h.each i m l).1 (old, r) in
-        ⊎_elim
-        (λ (here : Contains places i). subst (λ (us : List ℕ). Contains us m) (sym (a.longer i (omega (arith, h.size)) here)) (Contains-append_left (get_or rows i []) (n ∷ []) m before))
-        (λ (away : ¬ Contains places i). subst (λ (us : List ℕ). Contains us m) (sym (a.same i away)) before)
-        (place_or i l))
-        (λ (new : n ≡ m).
-        let here : Contains places i = (is i l).1 (subst (λ (k : ℕ). R k i) (sym new) r) in
-        subst (λ (us : List ℕ). Contains us m) (sym (a.longer i (omega (arith, h.size)) here)) (subst (λ (k : ℕ). Contains (get_or rows i [] ++ n ∷ []) k) new (Contains-push (get_or rows i []) n)))
-        (Contains-push_cases ns n m c)
+    sound : (i : ℕ) (l : LiveValue) → i < count → (o : Option ℕ) → distance s i ≡ o → Contains (get_or more i []) l → Contains (ns ++ n ∷ []) l.value × F l.value i l.distance
+    sound i l b None e c =
+        let (k, r) = h.sound i l b (subst (λ (us : List LiveValue). Contains us l) (a.same i e) c) in
+        (Contains-append_left ns (n ∷ []) l.value k, r)
+    sound i l b (Some d) e c = ⊎_elim
+        (λ old. let (k, r) = h.sound i l b old in (Contains-append_left ns (n ∷ []) l.value k, r))
+        (λ (new : live_value n d ≡ l). subst (λ (x : LiveValue). Contains (ns ++ n ∷ []) x.value × F x.value i x.distance) new (Contains-push ns n, finds.sound i d e))
+        (Contains-push_cases (get_or rows i []) (live_value n d) l (subst (λ (us : List LiveValue). Contains us l) (long i d b e) c))
 
-    row_rises : (i : ℕ) → AllPairs (λ m n. m < n) (get_or more i [])
-    row_rises i = ⊎_elim
-        (λ (here : Contains places i).
-        let l : i < count = within i here in
-        subst (λ (us : List ℕ). AllPairs (λ m n. m < n) us) (sym (a.longer i (omega (arith, h.size)) here))
-        (rising_push (get_or rows i []) n (λ m c. above m ((h.each i m l).0 c).0) (h.rising i)))
-        (λ (away : ¬ Contains places i). subst (λ (us : List ℕ). AllPairs (λ m n. m < n) us) (sym (a.same i away)) (h.rising i))
-        (contains_or places i)
+    still : (i m d : ℕ) → i < count → (o : Option ℕ) → distance s i ≡ o → HasLiveUpTo (get_or rows i []) m d → HasLiveUpTo (get_or more i []) m d
+    still i m d b None e (w, c, low) = (w, subst (λ (us : List LiveValue). Contains us (live_value m w)) (sym (a.same i e)) c, low)
+    still i m d b (Some g) e (w, c, low) =
+        (w, subst (λ (us : List LiveValue). Contains us (live_value m w)) (sym (long i g b e)) (Contains-append_left (get_or rows i []) (live_value n g ∷ []) (live_value m w) c), low)
+
+    rises : (i : ℕ) → i < count → (o : Option ℕ) → distance s i ≡ o → IsRising (get_or more i [])
+    rises i b None e = subst (λ (us : List LiveValue). IsRising us) (sym (a.same i e)) (h.rising i)
+    rises i b (Some d) e = subst (λ (us : List LiveValue). IsRising us) (sym (long i d b e)) (rising_push (get_or rows i []) (live_value n d) (λ l c. above l.value (h.sound i l b c).0) (h.rising i))
+
+-- what is found along edges, said of the same edges
+pub finds_as : (es : List (List ℕ)) (ws : List ℕ) (avoided : ℕ) (gs : List (List ℕ)) (vs : List ℕ) (a : ℕ) (starts : List Start) (s : Search) → gs ≡ es → vs ≡ ws → a ≡ avoided
+    → Finds (Found gs vs a starts) (length gs) s → Finds (Found es ws avoided starts) (length es) s
+finds_as es ws avoided gs vs a starts s edges lengths same finds =
+    subst (λ (b : ℕ). Finds (Found es ws b starts) (length es) s) same
+    (subst (λ (us : List ℕ). Finds (Found es us a starts) (length es) s) lengths (subst (λ (hs : List (List ℕ)). Finds (Found hs vs a starts) (length hs) s) edges finds))
+
+-- a search that has not begun
+pub clear_ready : (n : ℕ) (s : Search) → IsClear n s → IsReady n s
+clear_ready n s clear = record {
+  size = ap length clear.distances ∙ length-replicate n None;
+  marks = subst (λ (xs : List ℕ). Marks s.distances.items xs) (sym clear.reached) (subst (λ (ls : List (Option ℕ)). Marks ls []) (sym clear.distances) (marks_none n));
+  queue = clear.queue;
+}

@@ -123,17 +123,17 @@ marks_more ls xs place distance None e within marks = record {
     other p apart = get_or-set_other ls place p (Some distance) None apart
 
 -- the places behind one are reached, up to the index
-pub record LeftUpTo (ps : List ℕ) (ws : List (Option ℕ)) (avoided distance : ℕ) (ls : List (Option ℕ)) (P : ℕ → ℕ → Type 0) (i : ℕ) (ms : List (Option ℕ)) (Q : ℕ → ℕ → Type 0) : Type 0 where
+pub record LeftUpTo (ps : List ℕ) (ws : List ℕ) (avoided distance : ℕ) (ls : List (Option ℕ)) (P : ℕ → ℕ → Type 0) (i : ℕ) (ms : List (Option ℕ)) (Q : ℕ → ℕ → Type 0) : Type 0 where
   pub moves : Moves (λ q d. Contains (take i ps) q × Reaches ws avoided distance q d) ls P ms Q
   pub near : (q w : ℕ) → Contains (take i ps) q → q < length ls → length_at ws avoided q ≡ Some w → HasUpTo ms q (distance + w)
 
-pub left_none : (ps : List ℕ) (ws : List (Option ℕ)) (avoided distance : ℕ) (ls : List (Option ℕ)) (P : ℕ → ℕ → Type 0) → LeftUpTo ps ws avoided distance ls P 0 ls P
+pub left_none : (ps : List ℕ) (ws : List ℕ) (avoided distance : ℕ) (ls : List (Option ℕ)) (P : ℕ → ℕ → Type 0) → LeftUpTo ps ws avoided distance ls P 0 ls P
 left_none ps ws avoided distance ls P = record {
   moves = moves_not (λ q d. Contains (take 0 ps) q × Reaches ws avoided distance q d) ls P;
   near = λ q w (k, l, e) within at. absurd (omega arith);
 }
 
-pub left_more : (ps : List ℕ) (ws : List (Option ℕ)) (avoided distance : ℕ) (ls ms ns : List (Option ℕ)) (P Q T : ℕ → ℕ → Type 0) (i : ℕ) → i < length ps
+pub left_more : (ps : List ℕ) (ws : List ℕ) (avoided distance : ℕ) (ls ms ns : List (Option ℕ)) (P Q T : ℕ → ℕ → Type 0) (i : ℕ) → i < length ps
     → LeftUpTo ps ws avoided distance ls P i ms Q
     → Moves (λ q d. (q ≡ get_or ps i 0) × Reaches ws avoided distance q d) ms Q ns T
     → ((w : ℕ) → get_or ps i 0 < length ms → length_at ws avoided (get_or ps i 0) ≡ Some w → HasUpTo ns (get_or ps i 0) (distance + w))
@@ -157,12 +157,12 @@ left_more ps ws avoided distance ls ms ns P Q T i l a m near = record {
     last = subst (λ (us : List ℕ). Contains us (get_or ps i 0)) (sym (take_more ps i 0 l)) (Contains-push (take i ps) (get_or ps i 0))
 
 -- at the end
-pub left_moves : (ps : List ℕ) (ws : List (Option ℕ)) (avoided distance : ℕ) (ls ms : List (Option ℕ)) (P Q : ℕ → ℕ → Type 0) (i : ℕ) → length ps ≤ i
+pub left_moves : (ps : List ℕ) (ws : List ℕ) (avoided distance : ℕ) (ls ms : List (Option ℕ)) (P Q : ℕ → ℕ → Type 0) (i : ℕ) → length ps ≤ i
     → LeftUpTo ps ws avoided distance ls P i ms Q → Moves (λ q d. Contains ps q × Reaches ws avoided distance q d) ls P ms Q
 left_moves ps ws avoided distance ls ms P Q i over a =
     subst (λ (us : List ℕ). Moves (λ q d. Contains us q × Reaches ws avoided distance q d) ls P ms Q) (take_all i ps over) a.moves
 
-pub left_near : (ps : List ℕ) (ws : List (Option ℕ)) (avoided distance : ℕ) (ls ms : List (Option ℕ)) (P Q : ℕ → ℕ → Type 0) (i : ℕ) → length ps ≤ i
+pub left_near : (ps : List ℕ) (ws : List ℕ) (avoided distance : ℕ) (ls ms : List (Option ℕ)) (P Q : ℕ → ℕ → Type 0) (i : ℕ) → length ps ≤ i
     → LeftUpTo ps ws avoided distance ls P i ms Q → (q w : ℕ) → Contains ps q → q < length ls → length_at ws avoided q ≡ Some w → HasUpTo ms q (distance + w)
 left_near ps ws avoided distance ls ms P Q i over a q w c =
     a.near q w (subst (λ (us : List ℕ). Contains us q) (sym (take_all i ps over)) c)
@@ -200,7 +200,7 @@ nothing : (n p : ℕ) → get_or {A = Option ℕ} (replicate n None) p None ≡ 
 nothing n p = ⊎_elim (λ (b : p < n). get_or-replicate n p None None b) (λ a. get_or_past (replicate n None) p None (rw length-replicate a)) (cases_lt p n)
 
 -- the steps begin
-pub spreading_first : (es : List (List ℕ)) (ws : List (Option ℕ)) (avoided : ℕ) (starts : List Start) (ls ms : List (Option ℕ)) (xs : List ℕ) (P Q : ℕ → ℕ → Type 0)
+pub spreading_first : (es : List (List ℕ)) (ws : List ℕ) (avoided : ℕ) (starts : List Start) (ls ms : List (Option ℕ)) (xs : List ℕ) (P Q : ℕ → ℕ → Type 0)
     → ls ≡ replicate (length es) None → Marks ms xs → Moves (IsOf starts) ls P ms Q → ((s : Start) → Contains starts s → s.place < length ls → HasUpTo ms s.place s.distance)
     → Spreading es ws avoided starts ms xs Q
 spreading_first es ws avoided starts ls ms xs P Q none marks m near = record {
@@ -225,7 +225,7 @@ spreading_first es ws avoided starts ls ms xs P Q none marks m near = record {
         (m.fresh p d e)
 
 -- a place is left that has its distance still
-pub spreading_on : (es : List (List ℕ)) (ws : List (Option ℕ)) (avoided : ℕ) (starts : List Start) (ls ms : List (Option ℕ)) (xs ys : List ℕ) (P Q T : ℕ → ℕ → Type 0)
+pub spreading_on : (es : List (List ℕ)) (ws : List ℕ) (avoided : ℕ) (starts : List Start) (ls ms : List (Option ℕ)) (xs ys : List ℕ) (P Q T : ℕ → ℕ → Type 0)
     (place distance : ℕ) → Spreading es ws avoided starts ls xs P → ((p d : ℕ) → P p d → ((p ≡ place) × (d ≡ distance)) ⊎ Q p d) → get_or ls place None ≡ Some distance
     → Marks ms ys → Moves (λ q d. IsEdge es place q × Reaches ws avoided distance q d) ls Q ms T
     → ((q w : ℕ) → IsEdge es place q → q < length ls → length_at ws avoided q ≡ Some w → HasUpTo ms q (distance + w)) → Spreading es ws avoided starts ms ys T
@@ -253,7 +253,7 @@ spreading_on es ws avoided starts ls ms xs ys P Q T place distance s pop here ma
 }
 
 -- one that has a smaller distance by now
-pub spreading_by : (es : List (List ℕ)) (ws : List (Option ℕ)) (avoided : ℕ) (starts : List Start) (ls : List (Option ℕ)) (xs : List ℕ) (P Q : ℕ → ℕ → Type 0)
+pub spreading_by : (es : List (List ℕ)) (ws : List ℕ) (avoided : ℕ) (starts : List Start) (ls : List (Option ℕ)) (xs : List ℕ) (P Q : ℕ → ℕ → Type 0)
     (place distance : ℕ) → Spreading es ws avoided starts ls xs P → ((p d : ℕ) → P p d → ((p ≡ place) × (d ≡ distance)) ⊎ Q p d) → (get_or ls place None ≡ Some distance → ⊥)
     → Spreading es ws avoided starts ls xs Q
 spreading_by es ws avoided starts ls xs P Q place distance s pop gone = record {
@@ -271,7 +271,7 @@ spreading_by es ws avoided starts ls xs P Q place distance s pop gone = record {
 }
 
 -- the queue, said otherwise
-pub spreading_as : (es : List (List ℕ)) (ws : List (Option ℕ)) (avoided : ℕ) (starts : List Start) (ls : List (Option ℕ)) (xs : List ℕ) (P Q : ℕ → ℕ → Type 0) → ((p d : ℕ) → P p d → Q p d)
+pub spreading_as : (es : List (List ℕ)) (ws : List ℕ) (avoided : ℕ) (starts : List Start) (ls : List (Option ℕ)) (xs : List ℕ) (P Q : ℕ → ℕ → Type 0) → ((p d : ℕ) → P p d → Q p d)
     → Spreading es ws avoided starts ls xs P → Spreading es ws avoided starts ls xs Q
 spreading_as es ws avoided starts ls xs P Q as_q s = record {
   size = s.size;
@@ -282,7 +282,7 @@ spreading_as es ws avoided starts ls xs P Q as_q s = record {
 }
 
 -- once no place is left
-pub spread_least : (es : List (List ℕ)) (ws : List (Option ℕ)) (avoided : ℕ) (starts : List Start) (ls : List (Option ℕ)) (xs : List ℕ) (P : ℕ → ℕ → Type 0)
+pub spread_least : (es : List (List ℕ)) (ws : List ℕ) (avoided : ℕ) (starts : List Start) (ls : List (Option ℕ)) (xs : List ℕ) (P : ℕ → ℕ → Type 0)
     → Spreading es ws avoided starts ls xs P → ((p d : ℕ) → ¬ P p d) → (p d : ℕ) → Found es ws avoided starts p d → HasUpTo ls p d
 spread_least es ws avoided starts ls xs P s none _ _ (from x c inside) = s.begun x c inside
 spread_least es ws avoided starts ls xs P s none _ _ (onward p q d w found edge inside at) =

@@ -1,6 +1,6 @@
 -- Edges between the places of blocks.
 use Rattle.std.specs.Prelude.{◌≡◌, ◌↔◌, ℕ, ◌<◌, List, [], length, Option, Some, slice_index_or}
-use Rattle.std.specs.List.{Contains, slice_get}
+use Rattle.std.specs.List.{Contains, filter_map, slice_get}
 use Rattle.bk_func.specs.Records.{BlockRecord}
 use Rattle.bk_live.specs.Adds.{Adds}
 
@@ -27,3 +27,7 @@ LeadsFrom bs m p q = (b : BlockRecord) × (slice_get bs q ≡ Some b) × IsNamed
 pub record AreBackward (bs : List BlockRecord) (m : ℕ → Option ℕ) (es : List (List ℕ)) : Type 0 where
   pub size : length es ≡ length bs
   pub edge : (p q : ℕ) → IsEdge es p q ↔ (p < length bs × LeadsFrom bs m p q)
+
+-- the places of the block's successors
+abbrev pub onward : (ℕ → Option ℕ) → BlockRecord → List ℕ
+onward m b = filter_map m b.succs

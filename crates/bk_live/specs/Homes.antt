@@ -1,5 +1,5 @@
 -- Where values and blocks stand, by their numbers.
-use Rattle.std.specs.Prelude.{◌≡◌, ℕ, ◌<◌, List, length, Option, Some, IsSome, ◌⊎◌}
+use Rattle.std.specs.Prelude.{◌≡◌, ℕ, ◌<◌, List, [], ◌∷◌, ◌++◌, length, Option, None, Some, IsSome, ◌⊎◌}
 use Rattle.std.specs.List.{slice_get}
 use Rattle.std.specs.BTreeMap.{get}
 use Rattle.std.specs.Ordering.{nat_cmp}
@@ -44,3 +44,8 @@ spot i k = record { block = i; entry = k }
 
 abbrev pub end_of : List (List ℕ) → ℕ → Spot
 end_of os i = spot i (length (order_at os i))
+
+-- one more place at the end, if there is one
+abbrev pub with_place : List ℕ → Option ℕ → List ℕ
+with_place ps None = ps
+with_place ps (Some p) = ps ++ p ∷ []

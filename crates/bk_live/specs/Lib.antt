@@ -1,4 +1,5 @@
 pub mod Adds
+pub mod Counts
 pub mod Edges
 pub mod Homes
 pub mod Live
@@ -6,4 +7,5 @@ pub mod Prepared
 pub mod Rows
 pub mod Search
 pub mod Seen
+pub mod Table
 pub mod Uses

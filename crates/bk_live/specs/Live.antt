@@ -87,3 +87,13 @@ pub record AreLive (f : FuncRecord) (os rows : List (List ℕ)) : Type 0 where
   pub size : length rows ≡ length f.blocks
   pub rising : (i : ℕ) → AllPairs (λ m n. m < n) (slice_index_or rows i [])
   pub each : (i n : ℕ) → i < length f.blocks → Contains (slice_index_or rows i []) n ↔ IsLive f os n i 0
+
+-- the place behind k entries of the order of the block with the number n, which stands at i
+abbrev pub IsPlaced : FuncRecord → List (List ℕ) → ℕ → ℕ → ℕ → Type 0
+IsPlaced f os i n k = (b : BlockRecord) × (slice_get f.blocks i ≡ Some b) × (b.id ≡ n) × k ≤ length (order_at os i)
+
+-- the next uses at all places: those of the value v behind k entries of the order of the block with the number n; and none
+-- where no such place is
+pub record AllNextUses (f : FuncRecord) (os : List (List ℕ)) (next : ℕ → ℕ → ℕ → Option ℕ) : Type 0 where
+  pub each : (i n k v : ℕ) → IsPlaced f os i n k → NextUseIs f os v i k (next n k v)
+  pub outside : (n k v : ℕ) → ((i : ℕ) → ¬ IsPlaced f os i n k) → next n k v ≡ None

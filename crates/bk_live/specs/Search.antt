@@ -8,11 +8,11 @@ use Rattle.bk_live.specs.declared.search.Start.{Start}
 use Rattle.bk_live.specs.Edges.{IsEdge}
 
 -- the length of a place that edges lead to
-abbrev pub length_at : List (Option ℕ) → ℕ → ℕ → Option ℕ
-length_at ws avoided q = if q == avoided then None else slice_index_or ws q (Some 0)
+abbrev pub length_at : List ℕ → ℕ → ℕ → Option ℕ
+length_at ws avoided q = if q == avoided then None else Some (slice_index_or ws q 0)
 
 -- edges lead from a start to the place, the distance of the start and the lengths of the places on the way being d
-pub data Found (es : List (List ℕ)) (ws : List (Option ℕ)) (avoided : ℕ) (starts : List Start) : ℕ → ℕ → Type 0 where
+pub data Found (es : List (List ℕ)) (ws : List ℕ) (avoided : ℕ) (starts : List Start) : ℕ → ℕ → Type 0 where
   from : (s : Start) → Contains starts s → s.place < length es → Found es ws avoided starts s.place s.distance
   onward : (p q d w : ℕ) → Found es ws avoided starts p d → IsEdge es p q → q < length es → length_at ws avoided q ≡ Some w
       → Found es ws avoided starts q (d + w)
@@ -39,15 +39,15 @@ pub record Moves (R : ℕ → ℕ → Type 0) (ls : List (Option ℕ)) (P : ℕ 
   pub queued : (p d : ℕ) → P p d → Q p d
 
 -- from a place with the distance, the place q is reached at d
-abbrev pub Reaches : List (Option ℕ) → ℕ → ℕ → ℕ → ℕ → Type 0
+abbrev pub Reaches : List ℕ → ℕ → ℕ → ℕ → ℕ → Type 0
 Reaches ws avoided distance q d = (w : ℕ) × (length_at ws avoided q ≡ Some w) × (d ≡ distance + w)
 
 -- all that edges lead to from a place with the distance d has its distance
-abbrev pub Left : List (List ℕ) → List (Option ℕ) → ℕ → List (Option ℕ) → ℕ → ℕ → Type 0
+abbrev pub Left : List (List ℕ) → List ℕ → ℕ → List (Option ℕ) → ℕ → ℕ → Type 0
 Left es ws avoided ls p d = (q w : ℕ) → IsEdge es p q → q < length es → length_at ws avoided q ≡ Some w → HasUpTo ls q (d + w)
 
 -- a search on its way: places with a distance wait in the queue, or are left
-pub record Spreading (es : List (List ℕ)) (ws : List (Option ℕ)) (avoided : ℕ) (starts : List Start) (ls : List (Option ℕ)) (xs : List ℕ) (Q : ℕ → ℕ → Type 0) : Type 0 where
+pub record Spreading (es : List (List ℕ)) (ws : List ℕ) (avoided : ℕ) (starts : List Start) (ls : List (Option ℕ)) (xs : List ℕ) (Q : ℕ → ℕ → Type 0) : Type 0 where
   pub size : length ls ≡ length es
   pub marks : Marks ls xs
   pub sound : (p d : ℕ) → slice_index_or ls p None ≡ Some d → Found es ws avoided starts p d

@@ -1,6 +1,6 @@
 // Edges between the places of blocks.
-ghost use Rattle.std.specs.Prelude.{◌≡◌, ℕ, IfOk, OnOk, [], length, replicate, slice_index_or, Some};
-ghost use Rattle.bk_live.specs.Edges.{AddsEdges, AreBackward, IsNamed};
+ghost use Rattle.std.specs.Prelude.{◌≡◌, ℕ, IfOk, OnOk, [], length, map, replicate, slice_index_or, Some};
+ghost use Rattle.bk_live.specs.Edges.{AddsEdges, AreBackward, IsNamed, onward};
 ghost use Rattle.bk_live.specs.Homes.{place};
 
 use crate::places::Places;
@@ -47,6 +47,21 @@ impl Edges {
             edges.add_all(places, &block.succs, place)?;
         }
         Ok(edges)
+    }
+
+    /// From the place of each block to those of its successors.
+    pub(crate) fn onwards(
+        alloc: Global,
+        blocks: &[Block],
+        places: &Places,
+    ) -> Result<Edges, AllocError>
+        ensures { IfOk result (λ edges. edges ≡ map (onward (place places.now)) blocks.now) }
+    {
+        let mut lists = Vec::with_capacity(alloc, blocks.len())?;
+        for block in blocks {
+            lists.push(places.find_all(alloc, &block.succs)?)?;
+        }
+        Ok(Edges { lists })
     }
 
     /// An edge from each of the blocks with these numbers.

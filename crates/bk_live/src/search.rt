@@ -19,11 +19,11 @@ pub(crate) struct Start {
 }
 
 /// The edges that a search goes along. Each adds the length of the place that it leads to, 0 for places past the list;
-/// none leads to a place without a length, or to the place `avoided`.
+/// none leads to the place `avoided`.
 #[derive(Drop)]
 pub(crate) struct Roads<'a> {
     pub(crate) edges: &'a Edges,
-    pub(crate) lengths: &'a [Option<u64>],
+    pub(crate) lengths: &'a [u64],
     pub(crate) avoided: usize,
 }
 
@@ -35,7 +35,7 @@ impl<'a> Roads<'a> {
         if place == self.avoided {
             return None;
         }
-        self.lengths.get(place).copied().unwrap_or(Some(0))
+        Some(self.lengths.get(place).copied().unwrap_or(0))
     }
 }
 

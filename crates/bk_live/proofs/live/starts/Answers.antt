@@ -14,7 +14,7 @@ use Rattle.bk_live.proofs.live.starts.Goals as goal
 
 pub loop-used-init : goal.loop-used-init
 loop-used-init c =
-    starts_none (λ n. listed_at (get nat_cmp c.new-starts.result n)) c.args.uses.now (home c.args.homes.now)
+    starts_none c.args.counts.now (λ n. listed_at (get nat_cmp c.new-starts.result n)) c.args.uses.now (home c.args.homes.now)
     (λ n. ap (λ es. listed_at (lookup (is_at (nat_cmp n)) es)) c.new-starts.ensures.empty)
 
 pub loop-used-preserved : goal.loop-used-preserved
@@ -23,9 +23,9 @@ loop-used-preserved c =
     let i = c.loop-used.used-index in
     let zero : Use = record { value = 0; spot = record { block = 0; entry = 0 } } in
     before_more (λ (e : ℕ × Start). ⊥) (λ (e : ℕ × Start). Contains (listed_at (get nat_cmp c.loop-used.starts e.0)) e.1)
-    (λ (e : ℕ × Start). Contains (listed_at (get nat_cmp c.note.new.starts e.0)) e.1) us (Gives (IsBehind (home c.args.homes.now))) i (get_or us i zero)
+    (λ (e : ℕ × Start). Contains (listed_at (get nat_cmp c.note.new.starts e.0)) e.1) us (Gives c.args.counts.now (IsBehind (home c.args.homes.now))) i (get_or us i zero)
     (slice_get-get_or us i zero c.loop-used-test.true) c.loop-used.invariant c.in_ok-note.ensures
 
 pub returns : goal.returns
 returns c =
-    starts_are (home c.args.homes.now) c.args.uses.now c.loop-used.used-index (λ n. listed_at (get nat_cmp c.loop-used.starts n)) c.loop-used-test.false c.loop-used.invariant
+    starts_are c.args.counts.now (home c.args.homes.now) c.args.uses.now c.loop-used.used-index (λ n. listed_at (get nat_cmp c.loop-used.starts n)) c.loop-used-test.false c.loop-used.invariant

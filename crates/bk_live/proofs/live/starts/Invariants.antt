@@ -10,4 +10,4 @@ use Rattle.bk_live.proofs.live.starts.Given as goal
 
 abbrev pub invariant-loop-used : goal.invariant-loop-used
 invariant-loop-used l =
-    Adds (λ (e : ℕ × Start). ⊥) (Some_before l.uses (Gives (IsBehind (home l.homes))) l.used-index) (λ (e : ℕ × Start). Contains (listed_at (get nat_cmp l.starts e.0)) e.1)
+    Adds (λ (e : ℕ × Start). ⊥) (Some_before l.uses (Gives l.counts (IsBehind (home l.homes))) l.used-index) (λ (e : ℕ × Start). Contains (listed_at (get nat_cmp l.starts e.0)) e.1)

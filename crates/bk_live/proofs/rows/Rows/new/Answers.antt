@@ -1,4 +1,5 @@
 use Rattle.std.proofs.Common.{◌≡◌, ◌∙◌, ap, ℕ, List, [], replicate, arith}
+use Rattle.bk_live.specs.declared.rows.LiveValue.{LiveValue}
 use Rattle.bk_live.proofs.Edging.{lists_more}
 use Rattle.bk_live.proofs.rows.Rows.new.Goals as goal
 
@@ -8,4 +9,4 @@ loop-preserved c = lists_more _ c.loop.rows.items c.push.new.self.items c.new.re
 pub returns : goal.returns
 returns c =
     let same : c.loop.counter ≡ c.args.count = omega arith in
-    c.loop.invariant ∙ ap (λ (n : ℕ). replicate {A = List ℕ} n []) same
+    c.loop.invariant ∙ ap (λ (n : ℕ). replicate {A = List LiveValue} n []) same
