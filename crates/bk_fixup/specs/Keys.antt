@@ -1,5 +1,5 @@
 -- The keys of a function's values and of the types of its signature.
-use Rattle.std.specs.Prelude.{◌≢◌, ℕ, ℤ, ◌+◌, ◌<◌, List, ◌++◌, flat_map, Option, Some, None, option_map, if◌then◌else◌, IsTrue}
+use Rattle.std.specs.Prelude.{◌≢◌, ℤ, ◌+◌, ◌<◌, List, ◌++◌, flat_map, Option, Some, None, option_map, if◌then◌else◌, IsTrue}
 use Rattle.std.specs.List.{filter_map, All}
 use Rattle.bk_num.specs.Word.{residue, fits_signed}
 use Rattle.bk_ops.specs.declared.family.ArmOp.TheVariants as arm

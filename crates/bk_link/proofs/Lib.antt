@@ -1,0 +1,10 @@
+pub mod Addresses
+pub mod Sorting
+pub mod Naming
+pub mod Keyed
+pub mod Merging
+pub mod Window
+pub mod Texting
+pub mod Objects
+pub mod Placed
+pub mod Counted
