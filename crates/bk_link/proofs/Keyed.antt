@@ -1,21 +1,26 @@
--- What the keys in rising order have of the words of their area.
-use Rattle.std.proofs.Common.{ℕ, ◌*◌, ◌^◌, ◌<◌, ◌≤◌, List, length, arith, ⊎_elim}
-use Rattle.std.specs.Prelude.{nat_lt, slice_index}
+-- What the keys of an area have of its words.
+use Rattle.std.proofs.Common.{◌≡◌, ◌≢◌, ℕ, ◌+◌, ◌*◌, ◌^◌, ◌<◌, ◌≤◌, List, length, arith, ⊎_elim}
+use Rattle.std.specs.Prelude.{slice_index}
+use Rattle.std.specs.List.{All, AllPairs}
 use Rattle.std.proofs.lemmas.Bool.{cases_lt}
 use Rattle.std.proofs.lemmas.List.{get_or_past}
-use Rattle.std.proofs.lemmas.List.Elements.{All-filter, All-from_get_or}
-use Rattle.std.proofs.lemmas.List.Sorted.{All-permutation, length_permutation}
-use Rattle.bk_fixup.specs.Pieces.{PieceRecord}
-use Rattle.bk_link.specs.Cells.{keys_in, AreSorted}
-use Rattle.bk_link.specs.Linked.{code_size}
+use Rattle.bk_piece.specs.Rising.{full, keys_in}
+use Rattle.bk_piece.proofs.Elements.{found, from_found, same_tests}
+use Rattle.bk_piece.proofs.Full.{all_keys, in_keys, from_keys}
+use Rattle.bk_piece.proofs.Rising.{rising_length}
+use Rattle.bk_link.specs.Sites.{is_among}
 
 -- codes fit 32 bits
-pub narrow_codes : (words keys : List ℕ) → ((k : ℕ) → slice_index words k ≤ 13) → AreSorted words keys → (k : ℕ) → slice_index keys k < 2 ^ 32
-narrow_codes words keys h s k =
-    let given = All-from_get_or (λ c. c ≤ 13) words 0 (λ i _. h i) in
-    let all = All-permutation (λ c. c ≤ 13) (keys_in words) keys s.same (All-filter (λ w. nat_lt 0 w) (λ c. c ≤ 13) words given) in
-    ⊎_elim (λ l. omega (arith, all k 0 l)) (λ l. omega (arith, get_or_past keys k 0 l)) (cases_lt k (length keys))
+pub narrow_codes : (words keys : List ℕ) → All (λ w. w ≤ 13) words → keys ≡ keys_in words → (k : ℕ) → slice_index keys k < 2 ^ 32
+narrow_codes words keys h e k =
+    rw e (⊎_elim (λ l. omega (arith, all_keys (λ c. c ≤ 13) words h k 0 l)) (λ l. omega (arith, get_or_past (keys_in words) k 0 l)) (cases_lt k (length (keys_in words))))
 
--- the pool has room where its keys have
-pub pool_room : (ps : List PieceRecord) (words keys : List ℕ) → AreSorted words keys → code_size ps (keys_in words) ≤ 16777216 → 8 * length keys ≤ 16777216
-pool_room ps words keys s h = omega (arith, length_permutation (keys_in words) keys s.same, h)
+-- there are as many keys as words that hold one
+pub pool_length : (words : List ℕ) → AllPairs (λ x y. x ≢ y) (full words) → length (keys_in words) ≡ length (full words)
+pool_length words d = rising_length (full words) d
+
+-- a name's key is among the words where it is among the keys
+pub among_keys : (words : List ℕ) (n : ℕ) → is_among (keys_in words) n ≡ is_among words n
+among_keys words n = same_tests (is_among (keys_in words) n) (is_among words n)
+    (λ t. found words (n + 1) (from_keys words (n + 1) (from_found (keys_in words) (n + 1) t)).1)
+    (λ t. found (keys_in words) (n + 1) (in_keys words (n + 1) (λ z. absurd (omega arith)) (from_found words (n + 1) t)))

@@ -1,4 +1,4 @@
-pub mod Cells
+pub mod Addresses
 pub mod Conditions
 pub mod Linked
 pub mod Sites

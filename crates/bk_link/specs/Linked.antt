@@ -1,18 +1,19 @@
 -- The object of a package whose code is made.
-use Rattle.std.specs.Prelude.{◌≡◌, ℕ, ◌+◌, ◌*◌, ◌-◌, List, [], ◌∷◌, ◌++◌, length, take, drop, map, flat_map, replicate, sum_by, slice_index_or, unwrap_or}
+use Rattle.std.specs.Prelude.{ℕ, ◌+◌, ◌*◌, ◌-◌, List, [], ◌∷◌, ◌++◌, length, take, drop, map, flat_map, replicate, sum_by, unwrap_or}
 use Rattle.bk_num.specs.Memory.{data_base}
 use Rattle.bk_ops.specs.declared.types.Target.{Target}
 use Rattle.bk_ops.specs.declared.types.Ty.{Ty}
 use Rattle.bk_ops.specs.declared.types.Ty.TheVariants.{Mem}
 use Rattle.bk_func.specs.Records.{SigRecord, FuncRecord, VarRecord, PackageRecord}
-use Rattle.bk_fixup.specs.declared.Handle.{Handle}
-use Rattle.bk_fixup.specs.Pieces.{PieceRecord}
+use Rattle.bk_piece.specs.declared.Key.{Key}
+use Rattle.bk_piece.specs.Filled.{area, filled}
+use Rattle.bk_piece.specs.Pieces.{PieceOf, PieceRecord}
+use Rattle.bk_piece.specs.Rising.{keys_in}
 use Rattle.bk_elf.specs.Layout.{aligned}
 use Rattle.bk_elf.specs.Loading.{type_of_code}
 use Rattle.bk_elf.specs.Records.{ObjectRecord}
-use Rattle.bk_elf.specs.File.{file_of}
 use Rattle.bk_link.specs.declared.sites.Site.{Site}
-use Rattle.bk_link.specs.Cells.{key_at, AreSorted, symbol_address, constant_address, address_of}
+use Rattle.bk_link.specs.Addresses.{address_of}
 use Rattle.bk_link.specs.Sites.{text_base, func_sites, var_sites, by_name, symbols_of}
 use Rattle.bk_link.specs.Texts.{text_of}
 
@@ -23,65 +24,42 @@ var_bytes v = v.bytes ++ replicate (aligned v.size - length v.bytes) 0
 abbrev pub window_of : List VarRecord → List ℕ
 window_of vs = flat_map var_bytes vs
 
--- the type whose code a cell holds
-abbrev pub type_at : List ℕ → Handle → Ty
-type_at codes h = unwrap_or (type_of_code (key_at codes h.cell)) Mem
+-- the type whose code a key is
+abbrev pub type_of : Key → Ty
+type_of k = unwrap_or (type_of_code k.key) Mem
 
--- the signature that a piece's handles spell, the first of them those of arguments
-abbrev pub sig_of : List ℕ → FuncRecord → PieceRecord → SigRecord
-sig_of codes f p = record {
-  args = map (type_at codes) (take (length f.sig.args) p.types);
-  results = map (type_at codes) (drop (length f.sig.args) p.types);
+-- the signature that a piece's keys spell, the first of them those of arguments
+abbrev pub sig_of : FuncRecord → PieceOf Key → SigRecord
+sig_of f p = record {
+  args = map type_of (take (length f.sig.args) p.types);
+  results = map type_of (drop (length f.sig.args) p.types);
 }
 
-abbrev pub sigs_of : List ℕ → List FuncRecord → List PieceRecord → List SigRecord
-sigs_of codes fs [] = []
-sigs_of codes [] (p ∷ ps) = []
-sigs_of codes (f ∷ fs) (p ∷ ps) = sig_of codes f p ∷ sigs_of codes fs ps
-
--- the words of an area
-abbrev pub area : List (List ℕ) → ℕ → List ℕ
-area words n = slice_index_or words n []
+abbrev pub sigs_of : List FuncRecord → List (PieceOf Key) → List SigRecord
+sigs_of fs [] = []
+sigs_of [] (p ∷ ps) = []
+sigs_of (f ∷ fs) (p ∷ ps) = sig_of f p ∷ sigs_of fs ps
 
 -- functions and variables in order of names
-abbrev pub sites_of : PackageRecord → List PieceRecord → List Site
+abbrev pub sites_of : {H : Type 0} → PackageRecord → List (PieceOf H) → List Site
 sites_of pkg ps = by_name (func_sites text_base pkg.funcs ps) (var_sites data_base pkg.vars)
 
--- the addresses of the cells of areas 0 and 2
-abbrev pub symbol_addresses : List Site → List ℕ → List ℕ
-symbol_addresses sites words = map (symbol_address sites) words
-
-abbrev pub constant_addresses : List ℕ → List ℕ → List ℕ
-constant_addresses pool words = map (constant_address pool) words
-
 -- the bytes of text and pool
-abbrev pub code_size : List PieceRecord → List ℕ → ℕ
+abbrev pub code_size : {H : Type 0} → List (PieceOf H) → List ℕ → ℕ
 code_size ps pool = 4 * sum_by (λ p. length p.code) ps + 8 * length pool
 
--- the object, given the constants and the codes of types in rising order
-unfoldable pub object_of : PackageRecord → Target → List PieceRecord → List (List ℕ) → List ℕ → List ℕ → ObjectRecord
-object_of pkg t ps words pool types =
-    let sites = sites_of pkg ps in
-    record {
-      target = t;
-      text = text_of t (address_of (symbol_addresses sites (area words 0)) (constant_addresses pool (area words 2))) text_base ps;
-      pool = pool;
-      window = window_of pkg.vars;
-      types = types;
-      sigs = sigs_of (area words 1) pkg.funcs ps;
-      symbols = symbols_of pkg.names (area words 0) ps sites;
-    }
+-- the object of a package, the pieces of its functions and the keys of the three areas in rising order
+unfoldable pub object_of : PackageRecord → Target → List (PieceOf Key) → List (List ℕ) → ObjectRecord
+object_of pkg t ps keys = record {
+  target = t;
+  text = text_of t (address_of (sites_of pkg ps) (area keys 2)) text_base ps;
+  pool = area keys 2;
+  window = window_of pkg.vars;
+  types = area keys 1;
+  sigs = sigs_of pkg.funcs ps;
+  symbols = symbols_of pkg.names (area keys 0) (sites_of pkg ps);
+}
 
--- an object of the keys in rising order
-pub record IsObjectOf (pkg : PackageRecord) (t : Target) (ps : List PieceRecord) (words : List (List ℕ)) (object : ObjectRecord) : Type 0 where
-  pub pool : List ℕ
-  pub types : List ℕ
-  pub constants : AreSorted (area words 2) pool
-  pub codes : AreSorted (area words 1) types
-  pub is : object ≡ object_of pkg t ps words pool types
-
--- the file of that object
-pub record IsLinked (pkg : PackageRecord) (t : Target) (ps : List PieceRecord) (words : List (List ℕ)) (bytes : List ℕ) : Type 0 where
-  pub object : ObjectRecord
-  pub linked : IsObjectOf pkg t ps words object
-  pub file : bytes ≡ file_of object
+-- the same from pieces with handles and the words of the areas' cells: each handle stands for the word of its cell
+abbrev pub gathered : PackageRecord → Target → List PieceRecord → List (List ℕ) → ObjectRecord
+gathered pkg t ps words = object_of pkg t (map (filled words) ps) (map keys_in words)

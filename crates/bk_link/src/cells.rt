@@ -1,11 +1,13 @@
 // The cells of the areas: which keys they hold, and the addresses of these.
-ghost use Rattle.std.specs.Prelude.{◌≡◌, ℕ, ◌+◌, ◌*◌, ◌^◌, ◌<◌, ◌≤◌, ◌++◌, length, map, count_by, nat_lt, IfOk, OnOk, slice_index, if◌then◌else◌, ◌==◌, ◌≢◌, All, AllPairs};
-ghost use Rattle.bk_link.specs.Cells.{keys_in, IsStrict, AreSorted, symbol_address, constant_address, address_of};
-ghost use Rattle.bk_link.specs.Conditions.{AreLow, IsLow};
-ghost use Rattle.bk_link.specs.Linked.{area, symbol_addresses, constant_addresses};
+ghost use Rattle.std.specs.Prelude.{◌≡◌, ◌≢◌, ℕ, ◌+◌, ◌*◌, ◌^◌, ◌<◌, ◌≤◌, length, map, count_by, nat_lt, IfOk, slice_index, if◌then◌else◌, ◌==◌};
+ghost use Rattle.std.specs.List.{All, AllPairs};
+ghost use Rattle.bk_piece.specs.Filled.{area, word_of};
+ghost use Rattle.bk_piece.specs.Rising.{Rise, full, keys_in};
+ghost use Rattle.bk_link.specs.Addresses.{symbol_address, constant_address, find_in};
+ghost use Rattle.bk_link.specs.Conditions.{AreLow, AreTables, IsLow};
 
 use crate::sites::Site;
-use bk_fixup::Handle;
+use bk_piece::Handle;
 use std::alloc::{AllocError, Global};
 
 /// Where the pool begins.
@@ -22,9 +24,18 @@ pub(crate) fn area(words: &[Vec<u64>], place: usize) -> &[u64]
     &words[place]
 }
 
+/// The word of a handle's cell, which holds a key.
+#[tactic(auto, using(crate::proofs::Filling::within_areas))]
+pub(crate) fn word_of(words: &[Vec<u64>], handle: Handle) -> u64
+    requires { word_of (map (λ w. w.items) words.now) handle ≢ 0 }
+    ensures { result ≡ word_of (map (λ w. w.items) words.now) handle }
+{
+    words[handle.area as usize][handle.cell as usize]
+}
+
 /// How many cells hold a key.
 pub(crate) fn count_keys(words: &[u64]) -> usize
-    ensures value { result ≡ length (keys_in words.now) }
+    ensures value { result ≡ length (full words.now) }
     ensures most { result ≤ length words.now }
 {
     let mut count = 0;
@@ -38,16 +49,17 @@ pub(crate) fn count_keys(words: &[u64]) -> usize
 
 /// The keys of an area in rising order.
 pub(crate) fn sorted_keys(alloc: Global, words: &[u64]) -> Result<Vec<u64>, AllocError>
-    ensures sorted { IfOk result (λ keys. AreSorted words.now keys.items) }
-    ensures strict { AllPairs (λ x y. x ≢ y) (keys_in words.now) → IfOk result (λ keys. IsStrict keys.items) }
+    requires { AllPairs (λ x y. x ≢ y) (full words.now) }
+    ensures { IfOk result (λ keys. keys.items ≡ keys_in words.now) }
 {
-    let mut keys = keys_in(alloc, words)?;
+    let mut keys = full(alloc, words)?;
     keys.sort_unstable();
     Ok(keys)
 }
 
-fn keys_in(alloc: Global, words: &[u64]) -> Result<Vec<u64>, AllocError>
-    ensures { IfOk result (λ keys. keys.items ≡ keys_in words.now) }
+/// The words of the cells that hold a key.
+fn full(alloc: Global, words: &[u64]) -> Result<Vec<u64>, AllocError>
+    ensures { IfOk result (λ keys. keys.items ≡ full words.now) }
 {
     let mut keys = Vec::new(alloc);
     for word in words {
@@ -58,8 +70,19 @@ fn keys_in(alloc: Global, words: &[u64]) -> Result<Vec<u64>, AllocError>
     Ok(keys)
 }
 
+/// The codes of types in rising order.
+#[tactic(auto, using(crate::proofs::Keyed::narrow_codes))]
+pub(crate) fn type_codes(alloc: Global, words: &[u64]) -> Result<Vec<u32>, AllocError>
+    requires differ { AllPairs (λ x y. x ≢ y) (full words.now) }
+    requires codes { All (λ w. w ≤ 13) words.now }
+    ensures { IfOk result (λ codes. codes.items ≡ keys_in words.now) }
+{
+    let keys = sorted_keys(alloc, words)?;
+    narrowed(alloc, &keys)
+}
+
 /// Numbers that fit a `u32`.
-pub(crate) fn narrowed(alloc: Global, numbers: &[u64]) -> Result<Vec<u32>, AllocError>
+fn narrowed(alloc: Global, numbers: &[u64]) -> Result<Vec<u32>, AllocError>
     requires { (k : ℕ) → slice_index numbers.now k < 2 ^ 32 }
     ensures { IfOk result (λ narrow. narrow.items ≡ numbers.now) }
 {
@@ -70,14 +93,54 @@ pub(crate) fn narrowed(alloc: Global, numbers: &[u64]) -> Result<Vec<u32>, Alloc
     Ok(narrow)
 }
 
+/// The address of what each cell of the areas of symbols and of constants holds.
+#[derive(Drop)]
+pub struct Addresses {
+    symbols: Vec<u32>,
+    constants: Vec<u32>,
+}
+
+impl Addresses {
+    pub(crate) fn new(
+        alloc: Global,
+        sites: &[Site],
+        pool: &[u64],
+        words: &[Vec<u64>],
+    ) -> Result<Addresses, AllocError>
+        requires areas { length words.now ≡ 3 }
+        requires low { All IsLow sites.now }
+        requires room { 8 * length pool.now ≤ 16777216 }
+        requires rising { Rise pool.now }
+        ensures symbols { IfOk result (λ a. a.symbols.items ≡ map (symbol_address sites.now) (area (map (λ w. w.items) words.now) 0)) }
+        ensures constants { IfOk result (λ a. a.constants.items ≡ map (constant_address pool.now) (area (map (λ w. w.items) words.now) 2)) }
+        ensures tables { IfOk result AreTables }
+    {
+        Ok(Addresses {
+            symbols: symbol_addresses(alloc, sites, area(words, 0))?,
+            constants: constant_addresses(alloc, pool, area(words, 2))?,
+        })
+    }
+
+    /// The address of a handle's key.
+    pub(crate) fn find(&self, handle: Handle) -> u64
+        requires cell { handle.cell < (if handle.area == 2 then length self.now.constants.items else length self.now.symbols.items) }
+        requires tables { AreTables self.now }
+        ensures value { result ≡ find_in self.now handle }
+        ensures low { result < 2 ^ 31 }
+    {
+        let addresses = if handle.area == 2 {
+            &self.constants
+        } else {
+            &self.symbols
+        };
+        u64::from(addresses[handle.cell as usize])
+    }
+}
+
 /// The address of what each cell of the symbols' area holds.
-pub(crate) fn symbol_addresses(
-    alloc: Global,
-    sites: &[Site],
-    words: &[u64],
-) -> Result<Vec<u32>, AllocError>
+fn symbol_addresses(alloc: Global, sites: &[Site], words: &[u64]) -> Result<Vec<u32>, AllocError>
     requires { All IsLow sites.now }
-    ensures value { IfOk result (λ addresses. addresses.items ≡ symbol_addresses sites.now words.now) }
+    ensures value { IfOk result (λ addresses. addresses.items ≡ map (symbol_address sites.now) words.now) }
     ensures low { IfOk result (λ addresses. AreLow addresses.items) }
 {
     let mut addresses = Vec::with_capacity(alloc, words.len())?;
@@ -103,14 +166,10 @@ fn symbol_address(sites: &[Site], word: u64) -> u32
 }
 
 /// The address of what each cell of the constants' area holds.
-pub(crate) fn constant_addresses(
-    alloc: Global,
-    pool: &[u64],
-    words: &[u64],
-) -> Result<Vec<u32>, AllocError>
+fn constant_addresses(alloc: Global, pool: &[u64], words: &[u64]) -> Result<Vec<u32>, AllocError>
     requires room { 8 * length pool.now ≤ 16777216 }
-    requires rising { IsStrict pool.now }
-    ensures value { IfOk result (λ addresses. addresses.items ≡ constant_addresses pool.now words.now) }
+    requires rising { Rise pool.now }
+    ensures value { IfOk result (λ addresses. addresses.items ≡ map (constant_address pool.now) words.now) }
     ensures low { IfOk result (λ addresses. AreLow addresses.items) }
 {
     let mut addresses = Vec::with_capacity(alloc, words.len())?;
@@ -123,7 +182,7 @@ pub(crate) fn constant_addresses(
 /// The address of a constant of the pool.
 fn constant_address(pool: &[u64], word: u64) -> u32
     requires room { 8 * length pool.now ≤ 16777216 }
-    requires rising { IsStrict pool.now }
+    requires rising { Rise pool.now }
     ensures value { result ≡ constant_address pool.now word }
     ensures low { result < 2 ^ 31 }
 {
@@ -132,7 +191,7 @@ fn constant_address(pool: &[u64], word: u64) -> u32
 
 /// How many constants of a rising pool are below a number.
 fn count_below(pool: &[u64], word: u64) -> usize
-    requires { IsStrict pool.now }
+    requires { Rise pool.now }
     ensures value { result ≡ count_by (λ c. nat_lt c word) pool.now }
     ensures most { result ≤ length pool.now }
 {
@@ -140,15 +199,4 @@ fn count_below(pool: &[u64], word: u64) -> usize
         Ok(place) => place,
         Err(place) => place,
     }
-}
-
-/// The address of a handle's key, given those of the cells of areas 0 and 2.
-pub(crate) fn address_of(symbols: &[u32], constants: &[u32], handle: Handle) -> u64
-    requires cell { handle.cell < (if handle.area == 2 then length constants.now else length symbols.now) }
-    requires low { AreLow symbols.now × AreLow constants.now }
-    ensures value { result ≡ address_of symbols.now constants.now handle }
-    ensures low { result < 2 ^ 31 }
-{
-    let addresses = if handle.area == 2 { constants } else { symbols };
-    u64::from(addresses[handle.cell as usize])
 }

@@ -1,39 +1,41 @@
 // The object of a package whose code is made.
-ghost use Rattle.std.specs.Prelude.{◌≡◌, ◌+◌, ◌*◌, ◌^◌, ◌<◌, ◌≤◌, ◌++◌, ◌||◌, ℕ, length, map, sum_by, replicate, false, slice_index, slice_index_or, IfOk, OnOk, string_bytes};
-ghost use Rattle.std.specs.List.{All, list_any};
+ghost use Rattle.std.specs.Prelude.{◌≡◌, ◌≢◌, ◌+◌, ◌*◌, ◌^◌, ◌<◌, ◌≤◌, ◌++◌, ◌||◌, ℕ, length, map, sum_by, replicate, false, slice_index_or, IfOk, OnOk, string_bytes};
+ghost use Rattle.std.specs.List.{All, AllPairs};
+ghost use Rattle.bk_piece.specs.Filled.{area, filled, key_at, word_of};
+ghost use Rattle.bk_piece.specs.Rising.{full, keys_in};
 ghost use Rattle.bk_elf.specs.Layout.{aligned};
 ghost use Rattle.bk_elf.specs.Loading.{type_of_code};
-ghost use Rattle.bk_link.specs.Cells.{keys_in, IsStrict, address_of};
-ghost use Rattle.bk_link.specs.Conditions.{IsLinkable, IsLow, IsPiece, IsVar, IsWithin, AreTyped};
-ghost use Rattle.bk_link.specs.Linked.{var_bytes, window_of, type_at, sig_of, sigs_of, area, sites_of, symbol_addresses, constant_addresses, code_size, IsObjectOf};
-ghost use Rattle.bk_link.specs.Sites.{is_for, is_referenced, symbol_of, symbols_of};
+ghost use Rattle.bk_link.specs.Addresses.{address_of};
+ghost use Rattle.bk_link.specs.Conditions.{HasPatches, AreTyped, IsTyped, IsHandle, IsLinkable, IsLow, IsVar};
+ghost use Rattle.bk_link.specs.Linked.{var_bytes, window_of, type_of, sig_of, sigs_of, sites_of, code_size, gathered};
+ghost use Rattle.bk_link.specs.Sites.{is_among, symbol_of, symbols_of};
 ghost use Rattle.bk_link.specs.Texts.{text_of};
 
-use crate::cells::{area, constant_addresses, count_keys, narrowed, sorted_keys, symbol_addresses};
+use crate::cells::{Addresses, area, count_keys, sorted_keys, type_codes, word_of};
 use crate::sites::{Site, aligned, by_name, func_sites, var_sites};
 use crate::texts::text_of;
 use bk_elf::{Object, Symbol};
-use bk_fixup::{Handle, Patch, Piece};
 use bk_func::{Func, Package, Sig, Var};
 use bk_ops::{Target, Ty};
+use bk_piece::{Handle, Piece};
 use std::alloc::{AllocError, Global};
 
 /// The bytes of text and pool.
-pub(crate) fn code_size(pieces: &[Piece], constants: &[u64]) -> u64
+#[tactic(auto, using(crate::proofs::Keyed::pool_length))]
+pub(crate) fn code_size(pieces: &[Piece], constants: &[u64]) -> u128
     requires few { length pieces.now ≤ 4096 }
-    requires cells { length constants.now < 2 ^ 60 }
-    requires short { All (λ p. length p.code < 2 ^ 32) pieces.now }
+    requires differ { AllPairs (λ x y. x ≢ y) (full constants.now) }
     ensures { result ≡ code_size pieces.now (keys_in constants.now) }
 {
     let mut words = 0;
     for piece in pieces {
-        words += piece.code.len() as u64;
+        words += piece.code.len() as u128;
     }
-    4 * words + 8 * count_keys(constants) as u64
+    4 * words + 8 * count_keys(constants) as u128
 }
 
 /// The object, which says everything of the file but where its sections lie.
-#[tactic(auto, unfolding(crate::specs::Linked::object_of), using(crate::proofs::Keyed::narrow_codes, crate::proofs::Keyed::pool_room, crate::proofs::Naming::named_below, crate::proofs::Naming::all_within))]
+#[tactic(auto, unfolding(crate::specs::Linked::object_of))]
 pub(crate) fn object_of(
     alloc: Global,
     pkg: &Package,
@@ -43,20 +45,18 @@ pub(crate) fn object_of(
 ) -> Result<Object, AllocError>
     requires linkable { IsLinkable pkg.now target pieces.now (map (λ w. w.items) words.now) }
     requires fits { code_size pieces.now (keys_in (area (map (λ w. w.items) words.now) 2)) ≤ 16777216 }
-    ensures { IfOk result (λ object. IsObjectOf pkg.now target pieces.now (map (λ w. w.items) words.now) object) }
+    ensures { IfOk result (λ object. object ≡ gathered pkg.now target pieces.now (map (λ w. w.items) words.now)) }
 {
     let sites = sites_of(alloc, pkg, pieces)?;
-    let pool = sorted_keys(alloc, area(words, 2))?;
-    let text = linked_text(alloc, target, pieces, &sites, &pool, words)?;
-    let codes = sorted_keys(alloc, area(words, 1))?;
+    let code = code_of(alloc, target, pieces, words, &sites)?;
     Ok(Object {
         target,
-        text,
-        pool,
+        text: code.text,
+        pool: code.pool,
         window: window_of(alloc, &pkg.vars)?,
-        types: narrowed(alloc, &codes)?,
-        sigs: sigs_of(alloc, area(words, 1), &pkg.funcs, pieces)?,
-        symbols: symbols_of(alloc, &pkg.names, area(words, 0), pieces, &sites)?,
+        types: type_codes(alloc, area(words, 1))?,
+        sigs: sigs_of(alloc, words, &pkg.funcs, pieces)?,
+        symbols: symbols_of(alloc, &pkg.names, area(words, 0), &sites)?,
     })
 }
 
@@ -75,26 +75,33 @@ fn sites_of(alloc: Global, pkg: &Package, pieces: &[Piece]) -> Result<Vec<Site>,
     Ok(sites)
 }
 
-/// The words of all pieces with the addresses of their keys.
-fn linked_text(
+/// Text and pool.
+#[derive(Drop)]
+pub struct Code {
+    text: Vec<u32>,
+    pool: Vec<u64>,
+}
+
+/// The words of all pieces with the addresses of their keys, and the constants.
+fn code_of(
     alloc: Global,
     target: Target,
     pieces: &[Piece],
-    sites: &[Site],
-    pool: &[u64],
     words: &[Vec<u64>],
-) -> Result<Vec<u32>, AllocError>
+    sites: &[Site],
+) -> Result<Code, AllocError>
     requires areas { length words.now ≡ 3 }
+    requires differ { AllPairs (λ x y. x ≢ y) (full (area (map (λ w. w.items) words.now) 2)) }
     requires low { All IsLow sites.now }
-    requires pieces { All (IsPiece target (length (area (map (λ w. w.items) words.now) 0)) (length (area (map (λ w. w.items) words.now) 2))) pieces.now }
-    requires fits { 4 * sum_by (λ p. length p.code) pieces.now ≤ 16777216 }
-    requires room { 8 * length pool.now ≤ 16777216 }
-    requires rising { IsStrict pool.now }
-    ensures { IfOk result (λ text. text.items ≡ text_of target (address_of (symbol_addresses sites.now (area (map (λ w. w.items) words.now) 0)) (constant_addresses pool.now (area (map (λ w. w.items) words.now) 2))) 65536 pieces.now) }
+    requires pieces { All (HasPatches target (map (λ w. w.items) words.now)) pieces.now }
+    requires fits { code_size pieces.now (keys_in (area (map (λ w. w.items) words.now) 2)) ≤ 16777216 }
+    ensures text { IfOk result (λ code. code.text.items ≡ text_of target (address_of sites.now (keys_in (area (map (λ w. w.items) words.now) 2))) 65536 (map (filled (map (λ w. w.items) words.now)) pieces.now)) }
+    ensures pool { IfOk result (λ code. code.pool.items ≡ keys_in (area (map (λ w. w.items) words.now) 2)) }
 {
-    let symbols = symbol_addresses(alloc, sites, area(words, 0))?;
-    let constants = constant_addresses(alloc, pool, area(words, 2))?;
-    text_of(alloc, target, pieces, &symbols, &constants)
+    let pool = sorted_keys(alloc, area(words, 2))?;
+    let addresses = Addresses::new(alloc, sites, &pool, words)?;
+    let text = text_of(alloc, target, pieces, &addresses)?;
+    Ok(Code { text, pool })
 }
 
 /// The bytes of the variables, each filled up with zeros to a multiple of 8.
@@ -124,39 +131,39 @@ fn put_var(window: &mut Vec<u8>, var: &Var) -> Result<(), AllocError>
 /// The signature of each function, by the types that its piece names.
 fn sigs_of(
     alloc: Global,
-    codes: &[u64],
+    words: &[Vec<u64>],
     funcs: &[Func],
     pieces: &[Piece],
 ) -> Result<Vec<Sig>, AllocError>
-    requires { AreTyped (length codes.now) funcs.now pieces.now }
-    ensures { IfOk result (λ sigs. sigs.items ≡ sigs_of codes.now funcs.now pieces.now) }
+    requires { AreTyped (map (λ w. w.items) words.now) funcs.now pieces.now }
+    ensures { IfOk result (λ sigs. sigs.items ≡ sigs_of funcs.now (map (filled (map (λ w. w.items) words.now)) pieces.now)) }
 {
     let mut sigs = Vec::with_capacity(alloc, pieces.len())?;
     for (place, piece) in pieces.iter().enumerate() {
-        sigs.push(sig_of(alloc, codes, &funcs[place], piece)?)?;
+        sigs.push(sig_of(alloc, words, &funcs[place], piece)?)?;
     }
     Ok(sigs)
 }
 
-fn sig_of(alloc: Global, codes: &[u64], func: &Func, piece: &Piece) -> Result<Sig, AllocError>
-    requires long { length func.now.sig.args ≤ length piece.now.types }
-    requires cells { All (λ h. h.cell < length codes.now) piece.now.types }
-    ensures { IfOk result (λ sig. sig ≡ sig_of codes.now func.now piece.now) }
+#[tactic(auto, using(crate::proofs::Signed::first_types, crate::proofs::Signed::last_types))]
+fn sig_of(alloc: Global, words: &[Vec<u64>], func: &Func, piece: &Piece) -> Result<Sig, AllocError>
+    requires { IsTyped (map (λ w. w.items) words.now) func.now piece.now }
+    ensures { IfOk result (λ sig. sig ≡ sig_of func.now (filled (map (λ w. w.items) words.now) piece.now)) }
 {
     let (args, results) = piece.types.split_at(func.sig.args.len());
     Ok(Sig {
-        args: types_of(alloc, codes, args)?,
-        results: types_of(alloc, codes, results)?,
+        args: types_of(alloc, words, args)?,
+        results: types_of(alloc, words, results)?,
     })
 }
 
-fn types_of(alloc: Global, codes: &[u64], handles: &[Handle]) -> Result<Vec<Ty>, AllocError>
-    requires { All (λ h. h.cell < length codes.now) handles.now }
-    ensures { IfOk result (λ types. types.items ≡ map (type_at codes.now) handles.now) }
+fn types_of(alloc: Global, words: &[Vec<u64>], handles: &[Handle]) -> Result<Vec<Ty>, AllocError>
+    requires { All (IsHandle (map (λ w. w.items) words.now) 1) handles.now }
+    ensures { IfOk result (λ types. types.items ≡ map (λ h. type_of (key_at (map (λ w. w.items) words.now) h)) handles.now) }
 {
     let mut types = Vec::with_capacity(alloc, handles.len())?;
     for handle in handles {
-        types.push(type_of_code(codes[handle.cell as usize]).unwrap_or(Ty::Mem))?;
+        types.push(type_of_code(word_of(words, *handle)).unwrap_or(Ty::Mem))?;
     }
     Ok(types)
 }
@@ -183,27 +190,33 @@ fn type_of_code(code: u64) -> Option<Ty>
     }
 }
 
-/// The symbols of functions and of the variables that code refers to.
+/// The symbols of functions and of the variables that have a key.
 fn symbols_of(
     alloc: Global,
     names: &[String],
     words: &[u64],
-    pieces: &[Piece],
     sites: &[Site],
 ) -> Result<Vec<Symbol>, AllocError>
     requires named { All (λ s. s.name < length names.now) sites.now }
-    requires keys { (k : ℕ) → slice_index words.now k ≤ length names.now }
-    requires cells { All (λ p. All (IsWithin (length words.now)) p.handles) pieces.now }
-    ensures { IfOk result (λ symbols. symbols.items ≡ symbols_of (map string_bytes names.now) words.now pieces.now sites.now) }
+    requires keys { All (λ w. w ≤ length names.now) words.now }
+    ensures { IfOk result (λ symbols. symbols.items ≡ symbols_of (map string_bytes names.now) (keys_in words.now) sites.now) }
 {
-    let used = referenced(alloc, names.len(), words, pieces)?;
+    let used = marked(alloc, names.len(), words)?;
     let mut symbols = Vec::new(alloc);
     for site in sites {
-        if site.func || used[site.name as usize] {
+        if is_symbol(&used, *site) {
             symbols.push(symbol_of(names, *site)?)?;
         }
     }
     Ok(symbols)
+}
+
+/// Whether a site has a symbol.
+fn is_symbol(used: &[bool], site: Site) -> bool
+    requires { site.name < length used.now }
+    ensures { result ≡ (site.func || slice_index_or used.now site.name false) }
+{
+    site.func || used[site.name as usize]
 }
 
 fn symbol_of(names: &[String], site: Site) -> Result<Symbol, AllocError>
@@ -218,36 +231,17 @@ fn symbol_of(names: &[String], site: Site) -> Result<Symbol, AllocError>
     })
 }
 
-/// For each of so many names, whether a patch of a piece waits for its address.
-fn referenced(
-    alloc: Global,
-    names: usize,
-    words: &[u64],
-    pieces: &[Piece],
-) -> Result<Vec<bool>, AllocError>
-    requires keys { (k : ℕ) → slice_index words.now k ≤ names }
-    requires cells { All (λ p. All (IsWithin (length words.now)) p.handles) pieces.now }
+/// For each of so many names, whether its key is one of the words.
+fn marked(alloc: Global, names: usize, words: &[u64]) -> Result<Vec<bool>, AllocError>
+    requires { All (λ w. w ≤ names) words.now }
     ensures long { IfOk result (λ used. length used.items ≡ names) }
-    ensures each { IfOk result (λ used. (n : ℕ) → n < names → slice_index_or used.items n false ≡ is_referenced words.now pieces.now n) }
+    ensures each { IfOk result (λ used. (n : ℕ) → n < names → slice_index_or used.items n false ≡ is_among (keys_in words.now) n) }
 {
     let mut used = vec![in alloc; false; names]?;
-    for piece in pieces {
-        mark(&mut used, words, &piece.handles);
-    }
-    Ok(used)
-}
-
-fn mark(used: &mut [bool], words: &[u64], handles: &[(u32, Patch, Handle)])
-    requires keys { (k : ℕ) → slice_index words.now k ≤ length used.old }
-    requires cells { All (IsWithin (length words.now)) handles.now }
-    ensures { (n : ℕ) → n < length used.old → slice_index_or used.new n false ≡ (slice_index_or used.old n false || list_any (is_for words.now n) handles.now) }
-{
-    for (_, _, handle) in handles {
-        if handle.area == 0 {
-            let key = words[handle.cell as usize];
-            if key > 0 {
-                used[(key - 1) as usize] = true;
-            }
+    for word in words {
+        if *word > 0 {
+            used[(*word - 1) as usize] = true;
         }
     }
+    Ok(used)
 }

@@ -5,8 +5,8 @@ ghost use Rattle.bk_elf.specs.Layout.{aligned};
 ghost use Rattle.bk_link.specs.Conditions.{IsLow};
 ghost use Rattle.bk_link.specs.Sites.{func_sites, var_sites, count_before, by_name};
 
-use bk_fixup::Piece;
 use bk_func::{Func, Var};
+use bk_piece::Piece;
 use std::alloc::{AllocError, Global};
 
 /// Where the text begins.

@@ -39,13 +39,13 @@ from_put x (y ∷ ys) q h = put_ways (λ l. Contains l q → (x ≡ q) ⊎ Conta
     (λ _ h. ⊎_elim (λ e. inr (subst (λ z. Contains (z ∷ ys) q) (sym e) (has_here q ys))) (λ r. ⊎_elim (λ e. inl e) (λ s. inr (has_there y ys q s)) (from_put x ys q r)) (has_cases y (put x ys) q h))
     h
 
-head_of : (x : ℕ) (xs : List ℕ) → Rise (x ∷ xs) → All (λ y. x < y) xs
+pub head_of : (x : ℕ) (xs : List ℕ) → Rise (x ∷ xs) → All (λ y. x < y) xs
 head_of x xs h k d within = h 0 (suc k) d (omega arith) (omega (arith, within))
 
-tail_of : (x : ℕ) (xs : List ℕ) → Rise (x ∷ xs) → Rise xs
+pub tail_of : (x : ℕ) (xs : List ℕ) → Rise (x ∷ xs) → Rise xs
 tail_of x xs h i j d lt within = h (suc i) (suc j) d (omega (arith, lt)) (omega (arith, within))
 
-none_rises : Rise []
+pub none_rises : Rise []
 none_rises i j d lt within = absurd (omega (arith, within))
 
 put_above : (low x : ℕ) (ys : List ℕ) → low < x → All (λ y. low < y) ys → All (λ y. low < y) (put x ys)

@@ -1,4 +1,4 @@
--- Lists of addresses, and of constants that rise.
+-- How many of rising constants are below a number.
 use Rattle.std.proofs.Common.{◌≡◌, ℕ, zero, suc, ◌<◌, ◌≤◌, List, [], ◌∷◌, length, get_or, arith}
 use Rattle.std.specs.Prelude.{count_by, nat_lt, cond}
 use Rattle.std.proofs.lemmas.Bool.Decides.{nat_tests}
