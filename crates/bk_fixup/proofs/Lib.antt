@@ -1,3 +1,4 @@
 pub mod Gains
 pub mod Growing
+pub mod Keyed
 pub mod Passing

@@ -1,6 +1,6 @@
 -- The keys of a function's values and of the types of its signature.
-use Rattle.std.specs.Prelude.{ℕ, ℤ, ◌+◌, List, ◌++◌, flat_map, Option, Some, None, option_map, if◌then◌else◌}
-use Rattle.std.specs.List.{filter_map}
+use Rattle.std.specs.Prelude.{◌≢◌, ℤ, ◌+◌, ◌<◌, List, ◌++◌, flat_map, Option, Some, None, option_map, if◌then◌else◌, IsTrue}
+use Rattle.std.specs.List.{filter_map, All}
 use Rattle.bk_num.specs.Word.{residue, fits_signed}
 use Rattle.bk_ops.specs.declared.family.ArmOp.TheVariants as arm
 use Rattle.bk_ops.specs.declared.family.Family.{Family}
@@ -13,6 +13,10 @@ use Rattle.bk_func.specs.declared.parts.Aux.TheVariants as aux
 use Rattle.bk_func.specs.Records.{ValueRecord, BlockRecord, FuncRecord}
 use Rattle.bk_piece.specs.declared.Key.{Key}
 use Rattle.bk_piece.specs.Filled.{key_in}
+
+-- a word of one of the three areas, which is not 0
+abbrev pub IsKey : Key → Type 0
+IsKey k = (k.area < 3) × (k.key ≢ 0)
 
 -- the key of a symbol: the number of its name plus 1, in area 0
 abbrev pub symbol_key : Aux → Option Key
@@ -51,3 +55,7 @@ value_keys f = flat_map block_keys f.blocks
 -- the keys of a function: those of its values, then those of the types of its signature
 abbrev pub keys_of : FuncRecord → List Key
 keys_of f = value_keys f ++ (filter_map type_key f.sig.args ++ filter_map type_key f.sig.results)
+
+-- the constants of a function are numbers of 64 bits with a sign
+abbrev pub HasSmallConstants : FuncRecord → Type 0
+HasSmallConstants f = All (λ b. All (λ v. IsTrue (fits_signed 64 v.int)) b.values) f.blocks

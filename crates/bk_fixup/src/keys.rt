@@ -1,7 +1,8 @@
 // The keys of a function: what its code needs the address of.
-ghost use Rattle.std.specs.Prelude.{◌≡◌, ◌++◌, IfOk, OnOk, option_to_list};
-ghost use Rattle.std.specs.List.{filter_map};
-ghost use Rattle.bk_fixup.specs.Keys.{symbol_key, constant_key, type_key, key_of, keys_of};
+ghost use Rattle.std.specs.Prelude.{◌≡◌, ◌++◌, IfOk, IfSome, OnOk, option_to_list};
+ghost use Rattle.std.specs.List.{filter_map, All};
+ghost use Rattle.std.specs.Option.{ForSome};
+ghost use Rattle.bk_fixup.specs.Keys.{IsKey, symbol_key, constant_key, type_key, key_of, keys_of};
 
 use bk_func::{Aux, Block, Func, Value};
 use bk_num::residue;
@@ -12,13 +13,15 @@ use std::alloc::{AllocError, Global};
 /// The keys of a function, with repeats: those of its values, blocks and values in list order, then those of the types of its
 /// signature's arguments and results.
 pub fn keys_of(alloc: Global, func: &Func) -> Result<Vec<Key>, Memory>
-    ensures { IfOk result (λ keys. keys.items ≡ keys_of func.now) }
+    ensures value { IfOk result (λ keys. keys.items ≡ keys_of func.now) }
+    ensures keys { IfOk result (λ keys. All IsKey keys.items) }
 {
     Ok(listed(alloc, func)?)
 }
 
 fn listed(alloc: Global, func: &Func) -> Result<Vec<Key>, AllocError>
-    ensures { IfOk result (λ keys. keys.items ≡ keys_of func.now) }
+    ensures value { IfOk result (λ keys. keys.items ≡ keys_of func.now) }
+    ensures keys { IfOk result (λ keys. All IsKey keys.items) }
 {
     let mut keys = Vec::new(alloc);
     for block in &func.blocks {
@@ -30,7 +33,8 @@ fn listed(alloc: Global, func: &Func) -> Result<Vec<Key>, AllocError>
 }
 
 fn push_values(keys: &mut Vec<Key>, values: &[Value]) -> Result<(), AllocError>
-    ensures { OnOk result (keys.new.items ≡ keys.old.items ++ filter_map key_of values.now) }
+    ensures value { OnOk result (keys.new.items ≡ keys.old.items ++ filter_map key_of values.now) }
+    ensures keys { All IsKey keys.old.items → OnOk result (All IsKey keys.new.items) }
 {
     for value in values {
         push_some(keys, key_of(value))?;
@@ -39,7 +43,8 @@ fn push_values(keys: &mut Vec<Key>, values: &[Value]) -> Result<(), AllocError>
 }
 
 fn push_types(keys: &mut Vec<Key>, types: &[Ty]) -> Result<(), AllocError>
-    ensures { OnOk result (keys.new.items ≡ keys.old.items ++ filter_map type_key types.now) }
+    ensures value { OnOk result (keys.new.items ≡ keys.old.items ++ filter_map type_key types.now) }
+    ensures keys { All IsKey keys.old.items → OnOk result (All IsKey keys.new.items) }
 {
     for ty in types {
         push_some(keys, type_key(*ty))?;
@@ -47,8 +52,11 @@ fn push_types(keys: &mut Vec<Key>, types: &[Ty]) -> Result<(), AllocError>
     Ok(())
 }
 
+#[tactic(auto, using(crate::proofs::Keyed::more_keys))]
 fn push_some(keys: &mut Vec<Key>, key: Option<Key>) -> Result<(), AllocError>
-    ensures { OnOk result (keys.new.items ≡ keys.old.items ++ option_to_list key) }
+    requires { ForSome key IsKey }
+    ensures value { OnOk result (keys.new.items ≡ keys.old.items ++ option_to_list key) }
+    ensures keys { All IsKey keys.old.items → OnOk result (All IsKey keys.new.items) }
 {
     if let Some(key) = key {
         keys.push(key)?;
@@ -60,7 +68,8 @@ fn push_some(keys: &mut Vec<Key>, key: Option<Key>) -> Result<(), AllocError>
 /// make it.
 #[tactic(auto, unfolding(crate::specs::Keys::op_key))]
 pub fn key_of(value: &Value) -> Option<Key>
-    ensures { result ≡ key_of value.now }
+    ensures value { result ≡ key_of value.now }
+    ensures key { IfSome result IsKey }
 {
     match value.op.family {
         Family::Call | Family::CallRegs | Family::Arm(ArmOp::Addr) | Family::Rv(RvOp::Addr) =>
@@ -71,7 +80,8 @@ pub fn key_of(value: &Value) -> Option<Key>
 }
 
 fn symbol_key(aux: Aux) -> Option<Key>
-    ensures { result ≡ symbol_key aux }
+    ensures value { result ≡ symbol_key aux }
+    ensures key { IfSome result IsKey }
 {
     match aux {
         Aux::Sym(name) => Some(Key {
@@ -83,8 +93,10 @@ fn symbol_key(aux: Aux) -> Option<Key>
 }
 
 /// The key of a constant that 32 bits with a sign don't hold.
+#[tactic(auto, using(crate::proofs::Keyed::constant_not_zero))]
 fn constant_key(int: i64) -> Option<Key>
-    ensures { result ≡ constant_key int }
+    ensures value { result ≡ constant_key int }
+    ensures key { IfSome result IsKey }
 {
     if int >= -0x8000_0000 && int < 0x8000_0000 {
         None
@@ -97,7 +109,8 @@ fn constant_key(int: i64) -> Option<Key>
 }
 
 fn type_key(ty: Ty) -> Option<Key>
-    ensures { result ≡ type_key ty }
+    ensures value { result ≡ type_key ty }
+    ensures key { IfSome result IsKey }
 {
     match code(ty) {
         Some(code) => Some(Key {

@@ -45,9 +45,10 @@ pub struct Piece {
 }
 
 impl Model for Piece {
-    ghost use Rattle.bk_piece.specs.Pieces.{PieceRecord};
+    ghost use Rattle.bk_piece.specs.Pieces.{PieceOf};
+    ghost use Rattle.bk_piece.specs.declared.Handle.{Handle};
 
-    ghost Value = { PieceRecord };
+    ghost Value = { PieceOf Handle };
 
     ghost view = { λ p. record { code = p.code.items; handles = p.handles.items; types = p.types.items; frame = p.frame } };
 }

@@ -1,0 +1,13 @@
+pub mod Below
+pub mod Counted
+pub mod Filling
+pub mod Keyed
+pub mod Merging
+pub mod Numbered
+pub mod Objects
+pub mod Placed
+pub mod Signed
+pub mod Sizes
+pub mod Sorting
+pub mod Texting
+pub mod Window

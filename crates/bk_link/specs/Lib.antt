@@ -1,0 +1,5 @@
+pub mod Addresses
+pub mod Conditions
+pub mod Linked
+pub mod Sites
+pub mod Texts
