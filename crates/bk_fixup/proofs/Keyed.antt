@@ -64,6 +64,7 @@ constant_is c fits = by_size (fits_signed 32 c) refl
 op_is : (o : Family) (a : Aux) (c : ℤ) → IsTrue (fits_signed 64 c) → ForSome (op_key o a c) IsKey
 unfolding op_key
 op_is op.Call a c fits = symbol_is a
+op_is op.CallRegs a c fits = symbol_is a
 op_is (op.Arm arm.Addr) a c fits = symbol_is a
 op_is (op.Rv rv.Addr) a c fits = symbol_is a
 op_is (op.Rv rv.Const) a c fits = constant_is c fits
