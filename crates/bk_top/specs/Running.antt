@@ -8,13 +8,13 @@ use Rattle.bk_num.specs.Bytes.{each_bytes}
 use Rattle.bk_elf.specs.Records.{ObjectRecord}
 use Rattle.bk_elf.specs.Loading.{loaded}
 use Rattle.bk_elf.specs.Functions.{has_function, function_of}
-use Rattle.bk_rv_isa.specs.declared.stop.Stop.{Stop as RiscvStop}
-use Rattle.bk_rv_isa.specs.declared.stop.Stop.TheVariants as riscv_stop
+use Rattle.bk_machine.specs.declared.stop.Stop.{Stop as RiscvStop}
+use Rattle.bk_machine.specs.declared.stop.Stop.TheVariants as riscv_stop
 use Rattle.bk_rv_isa.specs.Machine as riscv
 use Rattle.bk_rv_sim.specs.View as riscv_view
 use Rattle.bk_rv_sim.specs.Results as riscv_results
-use Rattle.bk_arm_isa.specs.declared.stop.Stop.{Stop as ArmStop}
-use Rattle.bk_arm_isa.specs.declared.stop.Stop.TheVariants as arm_stop
+use Rattle.bk_machine.specs.declared.stop.Stop.{Stop as ArmStop}
+use Rattle.bk_machine.specs.declared.stop.Stop.TheVariants as arm_stop
 use Rattle.bk_arm_isa.specs.Machine as arm
 use Rattle.bk_arm_sim.specs.View as arm_view
 use Rattle.bk_arm_sim.specs.Results as arm_results
