@@ -19,7 +19,8 @@ SHORT, LONG = 1_000, 10_000_000
 NAMES = ["", ".text", ".pool", ".data", ".gosig", ".symtab", ".strtab", ".shstrtab"]
 
 RISCV64 = [
-    0x00013283,  # ld x5, 0(x2), the argument's word
+    0x00A13023,  # sd x10, 0(x2), the argument to its cell
+    0x00013283,  # ld x5, 0(x2)
     0xFFF28313,  # addi x6, x5, -1
     0x00613023,  # sd x6, 0(x2)
     0x026283B3,  # mul x7, x5, x6
@@ -29,7 +30,7 @@ RISCV64 = [
     0x12345537,  # lui x10, 0x12345
     0x00A435B3,  # sltu x11, x8, x10
     0xFC031EE3,  # bne x6, x0, -36
-    0x00813423,  # sd x8, 8(x2), the result's word
+    0x00040513,  # addi x10, x8, 0, the result
     0x00008067,  # jalr x0, 0(x1)
 ]
 
@@ -166,7 +167,7 @@ def main():
                 failed = True
                 continue
             ran, spent = run(program, file, LONG)
-            steps = 10 * LONG + 2
+            steps = 10 * LONG + len(machine.words) - 10
             print(f"{machine.name}: {steps / spent / 1e6:.1f} million steps a second ({steps:,} steps in {spent:.2f} s), {ran.stdout.strip()}")
     return 1 if failed else 0
 

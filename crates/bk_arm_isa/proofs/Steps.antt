@@ -1,25 +1,18 @@
 -- How the machine goes on: runs in sequence, one instruction, and what a stop leaves.
-use Rattle.std.proofs.Common.{◌≡◌, ℕ, suc, ◌+◌, ◌-◌, ◌*◌, ◌/◌, ◌%◌, List, [], ◌∷◌, ◌++◌, length, ap, ◌∙◌, sym, subst, refl, arith, Option, Some, None, Bool, true, false, cond, pos, ◌⊎◌, inl, inr}
-use Rattle.std.specs.Prelude.{slice_get, ◌==◌, nat_le, ◌&&◌}
-use Rattle.std.proofs.lemmas.Bool.Decides.{nat_tests}
+use Rattle.std.proofs.Common.{◌≡◌, ℕ, suc, ◌+◌, ◌*◌, List, ◌++◌, length, drop, ap, ◌∙◌, refl, Option, Some, None, Bool, true, false, cond, pos, ◌⊎◌, inl, inr}
+use Rattle.std.specs.Prelude.{◌==◌}
 use Rattle.bk_arm_isa.specs.declared.Inst.{Inst}
 use Rattle.bk_arm_isa.specs.declared.Inst.TheVariants.{Data, Move, Test, Movw, Movt, Mul, Mls, Umull, Smull, Sdiv, Udiv, Clz, Rbit, Sxtb, Sxth, Uxtb, Uxth, Ldr, Str, Ldrb, Strb, Ldrh, Strh, B, Bl, Bx, Udf}
-use Rattle.bk_arm_isa.specs.declared.stop.Stop.{Stop}
-use Rattle.bk_arm_isa.specs.declared.stop.Stop.TheVariants.{Returned, Fault}
+use Rattle.bk_machine.specs.declared.stop.Stop.{Stop}
+use Rattle.bk_machine.specs.declared.stop.Stop.TheVariants.{Returned, Fault}
+use Rattle.bk_machine.proofs.Standing as standing
+use Rattle.bk_machine.proofs.Running as running
+use Rattle.bk_machine.proofs.Running.{goes_on, halts}
+use Rattle.bk_arm_isa.specs.Decoding.{decoding}
 use Rattle.bk_arm_isa.specs.Operands.{passes, reg}
-use Rattle.bk_arm_isa.specs.Machine.{Machine, Gives, halt, plus, decoded, fetch, load, store, jumped, with_reg, with_windows, on_load, on_store, condition_of, execute, act, act_if, step, go_on, run, HasAt, Leads}
+use Rattle.bk_arm_isa.specs.Machine.{Machine, text_base, halt, plus, fetch, load, store, jumped, with_reg, with_windows, on_load, on_store, condition_of, execute, act, act_if, step, go_on, run, HasAt, Begins, Goes}
 
 -- runs
-
-pub stays : (m : Machine) → Leads m m
-stays m = record { by = λ k. (k, refl) }
-
-pub then : (m m1 m2 : Machine) → Leads m m1 → Leads m1 m2 → Leads m m2
-then m m1 m2 l r = record { by = λ k. let b = r.by k in let a = l.by b.0 in (a.0, a.1 ∙ b.1) }
-
--- the stop that a later machine comes to
-pub stops : (m m' : Machine) (n : ℕ) (g : Gives) → Leads m m' → run n m' ≡ g → (j : ℕ) × (run j m ≡ g)
-stops m m' n g l e = let b = l.by n in (b.0, b.1 ∙ e)
 
 -- the machine at the return address has returned
 pub returned : (m : Machine) → m.pc ≡ halt → run 1 m ≡ (Some Returned, m)
@@ -28,49 +21,31 @@ returned m h = ap (λ p. go_on (cond (p == halt) (Some Returned, m) (act_if (fet
 -- code in the text
 
 pub has_front : (a b : List Inst) (text : List ℕ) (pc : ℕ) → HasAt text pc (a ++ b) → HasAt text pc a
-has_front [] b text pc h = tt
-has_front (i ∷ a) b text pc h = (h.0, has_front a b text (pc + 4) h.1)
+has_front a b text pc h = standing.has_front decoding a b text pc h
 
 pub has_back : (a b : List Inst) (text : List ℕ) (pc : ℕ) → HasAt text pc (a ++ b) → HasAt text (pc + 4 * length a) b
-has_back [] b text pc h = let e : pc ≡ pc + 4 * 0 = omega arith in subst (λ p. HasAt text p b) e h
-has_back (i ∷ a) b text pc h =
-    let e : pc + 4 + 4 * length a ≡ pc + 4 * suc (length a) = omega arith in
-    subst (λ p. HasAt text p b) e (has_back a b text (pc + 4) h.1)
+has_back a b text pc h = standing.has_back decoding a b text pc h
+
+pub has_words : (is : List Inst) (text words : List ℕ) (k : ℕ) → drop k text ≡ words → Begins words is → HasAt text (text_base + 4 * k) is
+has_words is text words k e h = standing.has_words decoding is text words k e h
 
 -- one instruction
 
-guard : {A : Type 0} (b : Bool) (x : Option A) (i : A) → cond b x None ≡ Some i → b ≡ true
-guard true x i h = refl
-guard false x i h = cc
-
-apart : (pc : ℕ) → nat_le 65536 pc && pc % 4 == 0 ≡ true → (pc == 61440) ≡ false
-apart pc h = grind (arith, nat_tests)
+pub steps_to : (m : Machine) (i : Inst) → fetch m.text m.pc ≡ Some i → step m ≡ act i m
+steps_to m i h = ap (λ b. cond b (Some Returned, m) (act_if (fetch m.text m.pc) m)) (standing.not_halted decoding m.text m.pc i h) ∙ ap (λ o. act_if o m) h
 
 pub one : (m : Machine) (i : Inst) → fetch m.text m.pc ≡ Some i → (k : ℕ) → run (suc k) m ≡ go_on (act i m) (run k)
-one m i h k =
-    let t : (m.pc == halt) ≡ false = apart m.pc (guard (nat_le 65536 m.pc && m.pc % 4 == 0) (decoded (slice_get m.text ((m.pc - 65536) / 4))) i h) in
-    ap (λ b. go_on (cond b (Some Returned, m) (act_if (fetch m.text m.pc) m)) (run k)) t ∙ ap (λ o. go_on (act_if o m) (run k)) h
+one m i h k = ap (λ g. go_on g (run k)) (steps_to m i h)
 
--- an instruction whose condition holds, and that gives the next machine, leads there
-pub leads : (m m' : Machine) (i : Inst) → fetch m.text m.pc ≡ Some i → passes (condition_of i) m.flags ≡ true → execute i m ≡ (None, m') → Leads m m'
-leads m m' i h p e = record {
-  by = λ k. (
-    suc k,
-    one m i h k ∙ ap (λ b. go_on (cond b (execute i m) (None, jumped m (m.pc + 4))) (run k)) p ∙ ap (λ g. go_on g (run k)) e,
-  );
-}
+-- an instruction whose condition holds, and that gives the next machine, is a step to it
+pub once : (m m' : Machine) (i : Inst) → fetch m.text m.pc ≡ Some i → passes (condition_of i) m.flags ≡ true → execute i m ≡ (None, m') → Goes 1 m m'
+once m m' i h p e = running.once step m m' (steps_to m i h ∙ ap (λ b. cond b (execute i m) (None, jumped m (m.pc + 4))) p ∙ e)
 
--- one whose condition does not hold leads to the next pc
-pub skips : (m : Machine) (i : Inst) → fetch m.text m.pc ≡ Some i → passes (condition_of i) m.flags ≡ false → Leads m (jumped m (m.pc + 4))
-skips m i h p = record { by = λ k. (suc k, one m i h k ∙ ap (λ b. go_on (cond b (execute i m) (None, jumped m (m.pc + 4))) (run k)) p) }
+-- one whose condition does not hold is a step to the next pc
+pub skips : (m : Machine) (i : Inst) → fetch m.text m.pc ≡ Some i → passes (condition_of i) m.flags ≡ false → Goes 1 m (jumped m (m.pc + 4))
+skips m i h p = running.once step m (jumped m (m.pc + 4)) (steps_to m i h ∙ ap (λ b. cond b (execute i m) (None, jumped m (m.pc + 4))) p)
 
 -- a stop changes nothing
-
-goes_on : (next m m' : Machine) (stop : Stop) (g : Gives) → g ≡ (None, next) → g ≡ (Some stop, m') → m' ≡ m
-goes_on next m m' stop g e h = let none : None ≡ Some stop = ap (λ (q : Gives). q.0) (sym e ∙ h) in cc
-
-halts : (m m' : Machine) (s stop : Stop) (g : Gives) → g ≡ (Some s, m) → g ≡ (Some stop, m') → m' ≡ m
-halts m m' s stop g e h = ap (λ (q : Gives). q.1) (sym h ∙ e)
 
 load_stops : (o : Option ℕ) (m m' : Machine) (address rt : ℕ) (stop : Stop) → on_load m address o rt ≡ (Some stop, m') → m' ≡ m
 load_stops None m m' address rt stop h = halts m m' (Fault address) stop _ refl h

@@ -1,30 +1,21 @@
 -- The machine, its step and its start.
-use Rattle.std.specs.Prelude.{◌≡◌, ◌≤◌, ℕ, zero, suc, ℤ, pos, List, [], ◌∷◌, ◌++◌, length, ◌+◌, ◌*◌, ◌-◌, ◌/◌, ◌%◌, ◌^◌, ◌*ℤ◌, ◌-ℤ◌, Bool, true, false, nat_le, ◌&&◌, ◌==◌, if◌then◌else◌, Option, Some, None, slice_get, slice_set, replicate, int_div}
+use Rattle.std.specs.Prelude.{◌≤◌, ℕ, ℤ, pos, List, [], ◌∷◌, ◌++◌, length, ◌+◌, ◌*◌, ◌-◌, ◌/◌, ◌%◌, ◌^◌, ◌*ℤ◌, ◌-ℤ◌, Bool, true, false, nat_le, ◌&&◌, ◌==◌, if◌then◌else◌, Option, Some, None, slice_set, replicate, int_div}
 use Rattle.std.specs.Int.{w32, leading_zeros, reverse_bits}
 use Rattle.bk_num.specs.Word.{signed, residue, high_half}
 use Rattle.bk_num.specs.Bytes.{each_bytes}
 use Rattle.bk_num.specs.Memory.{pool_base, data_base, read, write}
+pub use Rattle.bk_num.specs.Addresses.{text_base, stack_top, halt}
+pub use Rattle.bk_machine.specs.Runs.{go_on}
+use Rattle.bk_machine.specs.Runs as runs
+use Rattle.bk_machine.specs.Texts as texts
 use Rattle.bk_arm_isa.specs.declared.Condition.{Condition}
 use Rattle.bk_arm_isa.specs.declared.Condition.TheVariants.{Al}
 use Rattle.bk_arm_isa.specs.declared.Inst.{Inst}
 use Rattle.bk_arm_isa.specs.declared.Inst.TheVariants.{Data, Move, Test, Movw, Movt, Mul, Mls, Umull, Smull, Sdiv, Udiv, Clz, Rbit, Sxtb, Sxth, Uxtb, Uxth, Ldr, Str, Ldrb, Strb, Ldrh, Strh, B, Bl, Bx, Udf}
-use Rattle.bk_arm_isa.specs.declared.stop.Stop.{Stop}
-use Rattle.bk_arm_isa.specs.declared.stop.Stop.TheVariants.{Returned, Trapped, Fault}
+use Rattle.bk_machine.specs.declared.stop.Stop.TheVariants.{Returned, Trapped, Fault}
 use Rattle.bk_arm_isa.specs.Decoding.{decoding}
 use Rattle.bk_arm_isa.specs.declared.flags.Flags.{Flags}
 use Rattle.bk_arm_isa.specs.Operands.{passes, reg, operand, data_result, move_result, test_flags}
-
--- where the text begins
-abbrev pub text_base : ℕ
-text_base = 65536
-
--- where the stack ends; the words of the started function's arguments and results stand there and above
-abbrev pub stack_top : ℕ
-stack_top = 536870912
-
--- the return address that halts
-abbrev pub halt : ℕ
-halt = 61440
 
 -- the link register
 abbrev pub link : ℕ
@@ -49,14 +40,9 @@ plus n z = (n + residue 32 z) % 2 ^ 32
 abbrev pub extended : ℕ → ℕ → ℕ
 extended w n = residue 32 (signed w n)
 
--- the instruction of a word, if there is a word
-abbrev pub decoded : Option ℕ → Option Inst
-decoded None = None
-decoded (Some w) = decoding w
-
 -- the instruction at the pc: none outside the text, between its words, and at a word outside the table
 abbrev pub fetch : List ℕ → ℕ → Option Inst
-fetch text pc = if nat_le text_base pc && pc % 4 == 0 then decoded (slice_get text ((pc - text_base) / 4)) else None
+fetch text pc = texts.fetch decoding text pc
 
 -- what a load reads
 abbrev pub load : Machine → ℕ → ℕ → Option ℕ
@@ -103,7 +89,7 @@ quotient x y = if y % 2 ^ 32 == 0 then 0 else x % 2 ^ 32 / (y % 2 ^ 32)
 
 -- what a step gives: the stop if there is one, and the machine after it
 abbrev pub Gives : Type 0
-Gives = Option Stop × Machine
+Gives = runs.Gives Machine
 
 -- a load that reads no window is a fault at its address
 abbrev pub on_load : Machine → ℕ → Option ℕ → ℕ → Gives
@@ -195,15 +181,9 @@ act_if (Some i) m = act i m
 abbrev pub step : Machine → Gives
 step m = if m.pc == halt then (Some Returned, m) else act_if (fetch m.text m.pc) m
 
--- what follows where there was no stop
-abbrev pub go_on : Gives → (Machine → Gives) → Gives
-go_on (None, m) f = f m
-go_on (Some stop, m) f = (Some stop, m)
-
 -- at most n steps, up to the first stop
 abbrev pub run : ℕ → Machine → Gives
-run zero m = (None, m)
-run (suc n) m = go_on (step m) (run n)
+run n m = runs.run step n m
 
 -- words as bytes
 abbrev pub word_bytes : List ℕ → List ℕ
@@ -237,9 +217,12 @@ pub record IsPlaced (m : Machine) : Type 0 where
 
 -- these instructions stand in the text from the pc on
 abbrev pub HasAt : List ℕ → ℕ → List Inst → Type 0
-HasAt text pc [] = Unit {0}
-HasAt text pc (i ∷ is) = (fetch text pc ≡ Some i) × HasAt text (pc + 4) is
+HasAt text pc is = texts.HasAt decoding text pc is
 
--- from the first machine comes the second: each run of the second ends a run of the first
-pub record Leads (m m' : Machine) : Type 0 where
-  pub by : (k : ℕ) → (j : ℕ) × (run j m ≡ run k m')
+-- the words begin with these instructions
+abbrev pub Begins : List ℕ → List Inst → Type 0
+Begins words is = texts.Begins decoding words is
+
+-- after this many steps, none of which stops, the first machine is the second
+abbrev pub Goes : ℕ → Machine → Machine → Type 0
+Goes steps m m' = runs.Goes step steps m m'

@@ -4,7 +4,7 @@ ghost use Rattle.bk_arm_isa.specs.declared.Inst.{Inst};
 ghost use Rattle.bk_arm_isa.specs.declared.Condition.TheVariants.{Eq, Cc, Ls, Lt, Le};
 ghost use Rattle.bk_arm_isa.specs.declared.TestOp.TheVariants.{Cmp};
 ghost use Rattle.bk_arm_isa.specs.declared.flags.Flags.{Flags};
-ghost use Rattle.bk_arm_isa.specs.declared.stop.Stop.{Stop};
+ghost use Rattle.bk_machine.specs.declared.stop.Stop.{Stop};
 ghost use Rattle.bk_arm_isa.specs.Encoding.{encoding};
 ghost use Rattle.bk_arm_isa.specs.Decoding.{decoding};
 ghost use Rattle.bk_arm_isa.specs.Operands.{passes, test_flags};

@@ -13,13 +13,12 @@ ghost use Rattle.bk_arm_isa.specs.Decoding.{decoding};
 mod flags;
 mod laws;
 mod read;
-mod stop;
 mod words;
 mod write;
 
+pub use bk_machine::Stop;
 pub use flags::Flags;
 pub use laws::{a_stop_changes_nothing, conditions_compare, memory_keeps_its_bytes, one_word_each};
-pub use stop::Stop;
 
 /// The condition field of an instruction (section A8.3).
 #[derive(Clone, Copy, PartialEq, Eq, Debug)]

@@ -1,6 +1,6 @@
 -- What a started machine keeps.
-use Rattle.std.proofs.Common.{◌≡◌, ℕ, zero, suc, ◌+◌, ◌-◌, ◌*◌, ◌/◌, ◌%◌, ◌^◌, ◌<◌, ◌≤◌, List, [], ◌∷◌, ◌++◌, length, ap, ◌∙◌, sym, refl, arith, Bool, true, false, length-append}
-use Rattle.std.specs.Prelude.{slice_index, replicate, nat_lt, ◌&&◌, ◌==◌, if◌then◌else◌}
+use Rattle.std.proofs.Common.{◌≡◌, ℕ, zero, suc, ◌+◌, ◌-◌, ◌*◌, ◌/◌, ◌%◌, ◌^◌, ◌<◌, List, [], ◌∷◌, ◌++◌, length, ◌∙◌, refl, arith, true, false, length-append}
+use Rattle.std.specs.Prelude.{slice_index, replicate, nat_lt, if◌then◌else◌}
 use Rattle.bk_ops.specs.declared.types.Ty.{Ty}
 use Rattle.bk_ops.specs.declared.types.Target.TheVariants.{Arm}
 use Rattle.bk_ops.specs.Types.{width_of}

@@ -1,4 +1,3 @@
-pub mod Runs
 pub mod Words
 pub mod Begun
 pub mod Placed

@@ -1,6 +1,6 @@
 -- The words of values as bytes.
-use Rattle.std.proofs.Common.{◌≡◌, ℕ, zero, suc, ◌+◌, ◌-◌, ◌*◌, ◌/◌, ◌%◌, ◌^◌, ◌<◌, ◌≤◌, List, [], ◌∷◌, ◌++◌, length, drop, get_or, ap, subst, ◌∙◌, sym, refl, arith, append_assoc, Bool, true, false}
-use Rattle.std.specs.Prelude.{nat_lt, ◌&&◌, if◌then◌else◌}
+use Rattle.std.proofs.Common.{◌≡◌, ℕ, zero, suc, ◌+◌, ◌*◌, ◌/◌, ◌%◌, ◌^◌, ◌<◌, List, [], ◌∷◌, ◌++◌, length, drop, get_or, ap, subst, ◌∙◌, sym, refl, arith, append_assoc, true, false}
+use Rattle.std.specs.Prelude.{nat_lt, if◌then◌else◌}
 use Rattle.bk_ops.specs.declared.types.Ty.{Ty}
 use Rattle.bk_ops.specs.declared.types.Ty.TheVariants.{Bool as Truth}
 use Rattle.bk_ops.specs.declared.types.Target.TheVariants.{Arm}

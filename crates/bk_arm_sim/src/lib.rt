@@ -13,7 +13,7 @@ mod starting;
 mod status;
 mod steps;
 
-pub use bk_arm_isa::Stop;
+pub use bk_machine::Stop;
 pub use errors::StartError;
 pub use machine::Machine;
 pub use returned::results;

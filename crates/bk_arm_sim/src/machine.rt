@@ -30,6 +30,7 @@ pub struct Machine {
     ghost registers: { length regs.items ≡ 15 },
     ghost registers_fit: { (k : ℕ) → slice_index regs.items k < 2 ^ 32 },
     ghost pc_fits: { pc < 2 ^ 32 },
+    ghost flags_fit: { flags < 2 ^ 4 },
     ghost text_fits: { length text.items ≤ 4194304 },
     ghost pool_fits: { 33554432 + length pool.items ≤ 67108864 },
     ghost window_fits: { 67108864 + length window.items ≤ bottom },

@@ -7,12 +7,8 @@ use crate::arithmetic::plus;
 use crate::machine::Machine;
 use crate::operands::reg;
 use crate::registers::set;
-use bk_arm_isa::Stop;
-use bk_num::{load_in, store_in};
-
-const POOL_BASE: u64 = 33_554_432;
-
-const DATA_BASE: u64 = 67_108_864;
+use bk_machine::Stop;
+use bk_num::{DATA_BASE, POOL_BASE, load_in, store_in};
 
 #[tactic(auto, unfolding(bk_num::specs::Memory::read))]
 fn load(machine: &Machine, size: usize, address: u64) -> Option<u64>

@@ -9,10 +9,8 @@ ghost use Rattle.bk_arm_sim.specs.View.{view};
 use crate::machine::Machine;
 use crate::signature::WORD_SIZE;
 use bk_func::{Sig, count_words, words_of_type};
-use bk_num::{load_in, trunc};
+use bk_num::{STACK_TOP, load_in, trunc};
 use bk_ops::{Target, Ty, width};
-
-const STACK_TOP: u64 = 536_870_912;
 
 /// The number in the words of a result, modulo 2 to the width of its type.
 ///

@@ -14,13 +14,9 @@ use crate::machine::Machine;
 use crate::signature::{WORD_SIZE, push_words};
 use bk_elf::{Image, Memory, function};
 use bk_func::{Sig, copy_sig, count_words, fit};
-use bk_num::push_each;
+use bk_num::{HALT, STACK_TOP, push_each};
 use bk_ops::Target;
 use std::alloc::{AllocError, Global};
-
-const STACK_TOP: u64 = 536_870_912;
-
-const HALT: u64 = 61_440;
 
 // The bytes of the constants.
 fn pool_bytes(alloc: Global, constants: &[u64]) -> Result<Vec<u8>, AllocError>

@@ -1,5 +1,5 @@
 //! Flags and conditions.
-ghost use Rattle.std.specs.Prelude.{◌≡◌, ◌+ℤ◌, pos, not};
+ghost use Rattle.std.specs.Prelude.{◌≡◌, ◌<◌, ◌^◌, ◌+ℤ◌, pos, not};
 ghost use Rattle.bk_num.specs.Word.{signed, fits_signed};
 ghost use Rattle.bk_arm_isa.specs.Operands.{is_signed_ge, passes, bit, sum_flags, logic_flags};
 ghost use Rattle.bk_arm_isa.specs.Machine.{condition_of};
@@ -23,7 +23,8 @@ pub fn unpack(flags: u8) -> Flags
 
 /// The number of the flags.
 pub fn pack(flags: Flags) -> u8
-    ensures { flags_of result ≡ flags }
+    ensures value { flags_of result ≡ flags }
+    ensures fits { result < 2 ^ 4 }
 {
     flags.negative as u8 * 8 + flags.zero as u8 * 4 + flags.carry as u8 * 2 + flags.overflow as u8
 }

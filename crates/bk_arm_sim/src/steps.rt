@@ -13,12 +13,9 @@ use crate::memory::{load_register, store_register};
 use crate::operands::{operand, reg, test_flags};
 use crate::registers::{put, set};
 use crate::status::{condition, pack, passes, unpack};
-use bk_arm_isa::{Inst, Stop, decode};
-use bk_num::hmul;
-
-const TEXT_BASE: u64 = 65_536;
-
-const HALT: u64 = 61_440;
+use bk_arm_isa::{Inst, decode};
+use bk_machine::Stop;
+use bk_num::{HALT, TEXT_BASE, hmul};
 
 const LINK: u8 = 14;
 

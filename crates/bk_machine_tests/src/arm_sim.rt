@@ -80,7 +80,7 @@ fn at(alloc: Global, word: u32, x: u32, y: u32, flags: u8) -> Result<Machine, Al
     let regs = registers(alloc, [(1, x), (2, y), (0, 0)])?;
     let sig = signature(alloc, &[], &[])?;
     let mut m = machine(alloc, regs, &[word], &[0; 16], sig)?;
-    m.flags = flags;
+    m.flags = flags % 16;
     Ok(m)
 }
 

@@ -35,7 +35,7 @@ fn fault(alloc: Global, bytes: &[u8]) -> Option<LoadError> {
     }
 }
 
-fn file_of(alloc: Global, target: Target) -> Result<Vec<u8>, AllocError> {
+pub fn file_of(alloc: Global, target: Target) -> Result<Vec<u8>, AllocError> {
     let words: &[u32] = match target {
         Target::Arm => &ARM,
         Target::Riscv64 => &RISCV64,

@@ -1,10 +1,13 @@
 ghost use Rattle.std.specs.Prelude.{◌≡◌, ◌≤◌, ◌+◌, ◌*◌, length, IfOk};
 
+use crate::elf::file_of;
+use bk_elf::load;
 use bk_func::Sig;
-use bk_ops::Ty;
+use bk_ops::{Target, Ty};
 use bk_rv_isa::{BranchOp, ImmediateOp, Inst, LoadOp, RegisterOp, ShiftOp, Stop, StoreOp, encode};
-use bk_rv_sim::{Machine, results, run, step};
+use bk_rv_sim::{Machine, results, run, start, step};
 use std::alloc::{AllocError, Global};
+use std::test::Fail;
 
 const TEXT: u64 = 65_536;
 
@@ -143,23 +146,22 @@ fn each_stop(rt: HostRuntime) -> Result<(), AllocError> {
 }
 
 // A function that adds its two arguments, in a frame of 16 bytes.
-const SUM: [u32; 13] = [
-    0xff010f93, 0x01bff663, 0x00500f93, 0x00100073, 0x000f8113, 0x00113423, 0x01013283, 0x01813303,
-    0x006282b3, 0x02513023, 0x00813083, 0x01010113, 0x00008067,
+const SUM: [u32; 11] = [
+    0xff010f93, 0x01bff663, 0x00500f93, 0x00100073, 0x000f8113, 0x00113423, 0x00b502b3, 0x00028513,
+    0x00813083, 0x01010113, 0x00008067,
 ];
 
 // The sum of 2 and 3 within so many steps, and its result.
 fn sum(alloc: Global, frame: u64, bound: u64) -> Result<(Stop, u64), AllocError>
     requires { frame ≤ 1000 }
 {
-    let mut stack = [0; 40];
-    stack[16] = 2;
-    stack[24] = 3;
     let sig = signature(alloc, &[Ty::Int, Ty::Int], &[Ty::Int])?;
-    let mut m = machine(alloc, &SUM, &stack, 536_870_896, sig)?;
+    let mut m = machine(alloc, &SUM, &[0; 40], 536_870_896, sig)?;
     m.regs[1] = 61_440;
     m.regs[2] = 536_870_912;
     m.regs[27] = 536_870_912 - frame;
+    m.regs[10] = 2;
+    m.regs[11] = 3;
     let stop = run(&mut m, bound);
     Ok((stop, results(&m, 0)))
 }
@@ -168,13 +170,53 @@ fn sum(alloc: Global, frame: u64, bound: u64) -> Result<(Stop, u64), AllocError>
 fn the_sum_returns(rt: HostRuntime) -> Result<(), AllocError> {
     for (frame, bound, want) in [
         (16, 1000, (Stop::Returned, 5)),
-        (16, 12, (Stop::Returned, 5)),
-        (16, 11, (Stop::Going, 5)),
-        (16, 0, (Stop::Going, 0)),
-        (15, 1000, (Stop::Trapped(5), 0)),
+        (16, 10, (Stop::Returned, 5)),
+        (16, 9, (Stop::Going, 5)),
+        (16, 0, (Stop::Going, 2)),
+        (15, 1000, (Stop::Trapped(5), 2)),
     ] {
         assert_eq!(rt; sum(rt.alloc(), frame, bound)?, want, "{frame} {bound}");
     }
+    Ok(())
+}
+
+// Eight results in x10 to x17 and a ninth in its cell, behind that of the argument.
+#[test]
+fn nine_results(rt: HostRuntime) -> Result<(), AllocError> {
+    let alloc = rt.alloc();
+    let sig = signature(alloc, &[Ty::Int], &[Ty::Uint8; 9])?;
+    let mut stack = [0; 96];
+    stack[16 + 8 * 9] = 18;
+    stack[17 + 8 * 9] = 1;
+    let mut m = machine(alloc, &SUM, &stack, BOTTOM, sig)?;
+    for k in 10..18 {
+        m.regs[k] = 0x100 + k as u64;
+    }
+    for index in 0..9 {
+        assert_eq!(rt; results(&m, index), 10 + index as u64);
+    }
+    Ok(())
+}
+
+// The machine at the start of `add`, with the loaded window and 24 bytes of stack.
+fn started(alloc: Global, args: &[u64]) -> Result<Machine, Fail> {
+    let file = file_of(alloc, Target::Riscv64)?;
+    let image = load(alloc, &file)?;
+    Ok(start(alloc, &image, "add", args, &image.window, 24)?)
+}
+
+#[test]
+fn the_start(rt: HostRuntime) -> Result<(), Fail> {
+    let m = started(rt.alloc(), &[u64::MAX, 40])?;
+    let mut regs = [0; 32];
+    regs[1] = 61_440;
+    regs[2] = 536_870_912;
+    regs[10] = u64::MAX;
+    regs[11] = 40;
+    regs[27] = 536_870_888;
+    assert_eq!(rt; m.regs.as_slice(), regs.as_slice());
+    assert_eq!(rt; (m.pc, m.bottom), (TEXT, 536_870_888));
+    assert_eq!(rt; m.stack.as_slice(), [0; 48].as_slice());
     Ok(())
 }
 

@@ -1,6 +1,6 @@
 -- How the machine goes on: runs in sequence, code in the text, and what each instruction does.
-use Rattle.std.proofs.Common.{◌≡◌, ℕ, zero, suc, ◌+◌, ◌-◌, ◌*◌, ◌/◌, ◌%◌, ◌^◌, ◌<◌, ◌≤◌, ◌≢◌, List, [], ◌∷◌, ◌++◌, length, drop, ap, ◌∙◌, sym, subst, refl, arith, Option, Some, None, Bool, true, false, cond, ℤ, inl, inr}
-use Rattle.std.specs.Prelude.{slice_get, slice_index, slice_index_or, slice_set, map, ◌==◌, nat_le, ◌&&◌}
+use Rattle.std.proofs.Common.{◌≡◌, ℕ, suc, ◌+◌, ◌*◌, ◌/◌, ◌%◌, ◌^◌, ◌<◌, ◌≤◌, ◌≢◌, List, [], ◌∷◌, ◌++◌, length, drop, ap, ◌∙◌, refl, arith, Option, Some, None, true, false, cond, ℤ, inl, inr}
+use Rattle.std.specs.Prelude.{slice_index, slice_index_or, slice_set, map, ◌==◌, nat_le, ◌&&◌}
 use Rattle.std.proofs.lemmas.Bool.Decides.{nat_tests}
 use Rattle.std.proofs.lemmas.List.{get_or-set_same, get_or-set_other}
 use Rattle.bk_rv_isa.specs.declared.inst.RegisterOp.{RegisterOp}
@@ -16,14 +16,21 @@ use Rattle.bk_rv_isa.specs.declared.inst.BranchOp.{BranchOp}
 use Rattle.bk_rv_isa.specs.declared.inst.BranchOp.TheVariants.{Bgeu}
 use Rattle.bk_rv_isa.specs.declared.inst.Inst.{Inst}
 use Rattle.bk_rv_isa.specs.declared.inst.Inst.TheVariants.{Op, OpImm, Shift, Addiw, Load, Store, Branch, Lui, Auipc, Jal, Jalr, Ebreak}
-use Rattle.bk_rv_isa.specs.declared.stop.Stop.{Stop}
-use Rattle.bk_rv_isa.specs.declared.stop.Stop.TheVariants.{Returned, Trapped, Fault}
-use Rattle.bk_rv_isa.specs.Encoding.{fits, word}
+use Rattle.bk_machine.specs.declared.stop.Stop.{Stop}
+use Rattle.bk_machine.specs.declared.stop.Stop.TheVariants.{Returned, Trapped, Fault}
+pub use Rattle.bk_machine.proofs.Standing.{guard, apart}
+use Rattle.bk_machine.proofs.Standing as standing
+use Rattle.bk_machine.proofs.Running as running
+use Rattle.bk_machine.proofs.Running.{goes_on, halts}
+use Rattle.bk_rv_isa.specs.Encoding.{fits, word, decoding}
 use Rattle.bk_rv_isa.proofs.Rows.{chosen}
 use Rattle.bk_rv_isa.proofs.Words.{decode_word}
-use Rattle.bk_rv_isa.specs.Machine.{Machine, Gives, text_base, halt, reg, plus, decoded, fetch, load, store, jumped, with_reg, with_windows, register_result, immediate_result, shift_result, load_size, load_result, store_size, is_taken, on_load, on_store, act, act_if, step, go_on, run, HasAt, Begins, Leads}
+use Rattle.bk_rv_isa.specs.Machine.{Machine, Gives, text_base, halt, reg, plus, fetch, load, store, jumped, with_reg, with_windows, register_result, immediate_result, shift_result, load_size, load_result, store_size, is_taken, on_load, on_store, act, act_if, step, go_on, run, HasAt, Begins, Goes, Leads}
 
 -- runs
+
+pub led : (s : ℕ) (m m' : Machine) → Goes s m m' → Leads m m'
+led s m m' g = record { by = λ k. (s + k, g.by k) }
 
 pub stays : (m : Machine) → Leads m m
 stays m = record { by = λ k. (k, refl) }
@@ -42,38 +49,13 @@ returned m h = ap (λ p. go_on (cond (p == halt) (Some Returned, m) (act_if (fet
 -- code in the text
 
 pub has_front : (a b : List Inst) (text : List ℕ) (pc : ℕ) → HasAt text pc (a ++ b) → HasAt text pc a
-has_front [] b text pc h = tt
-has_front (i ∷ a) b text pc h = (h.0, has_front a b text (pc + 4) h.1)
+has_front a b text pc h = standing.has_front decoding a b text pc h
 
 pub has_back : (a b : List Inst) (text : List ℕ) (pc : ℕ) → HasAt text pc (a ++ b) → HasAt text (pc + 4 * length a) b
-has_back [] b text pc h = let e : pc ≡ pc + 4 * 0 = omega arith in subst (λ p. HasAt text p b) e h
-has_back (i ∷ a) b text pc h =
-    let e : pc + 4 + 4 * length a ≡ pc + 4 * suc (length a) = omega arith in
-    subst (λ p. HasAt text p b) e (has_back a b text (pc + 4) h.1)
+has_back a b text pc h = standing.has_back decoding a b text pc h
 
--- where the words behind k words begin with the code, it stands at their address
-fetch_at : (text : List ℕ) (k : ℕ) → fetch text (65536 + 4 * k) ≡ decoded (slice_get text k)
-fetch_at text k =
-    let t : nat_le text_base (65536 + 4 * k) && (65536 + 4 * k) % 4 == 0 ≡ true = grind (arith, nat_tests) in
-    let e : (65536 + 4 * k - 65536) / 4 ≡ k = omega arith in
-    ap (λ b. cond b (decoded (slice_get text ((65536 + 4 * k - 65536) / 4))) None) t ∙ ap (λ j. decoded (slice_get text j)) e
-
-get_drop : (text : List ℕ) (k w : ℕ) (ws : List ℕ) → drop k text ≡ w ∷ ws → (slice_get text k ≡ Some w) × (drop (suc k) text ≡ ws)
-get_drop [] zero w ws h = cc
-get_drop [] (suc k) w ws h = cc
-get_drop (x ∷ text) zero w ws h = (let q = h in cc, let q = h in cc)
-get_drop (x ∷ text) (suc k) w ws h = get_drop text k w ws h
-
-pub has_words : (is : List Inst) (text words : List ℕ) (k : ℕ) → drop k text ≡ words → Begins words is → HasAt text (65536 + 4 * k) is
-has_words [] text words k e h = tt
-has_words (i ∷ is) text [] k e h = elim h [ ]
-has_words (i ∷ is) text (w ∷ ws) k e h =
-    let g = get_drop text k w ws e in
-    let p : 65536 + 4 * suc k ≡ 65536 + 4 * k + 4 = omega arith in
-    (fetch_at text k ∙ ap decoded g.0 ∙ h.0, subst (λ q. HasAt text q is) p (has_words is text ws (suc k) g.1 h.1))
-
-pub has_dropped : (is : List Inst) (text : List ℕ) (k : ℕ) → Begins (drop k text) is → HasAt text (65536 + 4 * k) is
-has_dropped is text k h = has_words is text (drop k text) k refl h
+pub has_words : (is : List Inst) (text words : List ℕ) (k : ℕ) → drop k text ≡ words → Begins words is → HasAt text (text_base + 4 * k) is
+has_words is text words k e h = standing.has_words decoding is text words k e h
 
 -- the words of instructions whose fields fit begin with these instructions
 pub begins_words : (is : List Inst) (rest : List ℕ) → ((k : ℕ) → k < length is → fits (slice_index_or is k Ebreak) ≡ true) → Begins (map word is ++ rest) is
@@ -90,21 +72,18 @@ other_reg regs k j v h = get_or-set_other regs k j v 0 h
 
 -- one instruction
 
-guard : {A : Type 0} (b : Bool) (x : Option A) (i : A) → cond b x None ≡ Some i → b ≡ true
-guard true x i h = refl
-guard false x i h = cc
-
-apart : (pc : ℕ) → nat_le 65536 pc && pc % 4 == 0 ≡ true → (pc == 61440) ≡ false
-apart pc h = grind (arith, nat_tests)
+pub steps_to : (m : Machine) (i : Inst) → fetch m.text m.pc ≡ Some i → step m ≡ act i m
+steps_to m i h = ap (λ b. cond b (Some Returned, m) (act_if (fetch m.text m.pc) m)) (standing.not_halted decoding m.text m.pc i h) ∙ ap (λ o. act_if o m) h
 
 pub one : (m : Machine) (i : Inst) → fetch m.text m.pc ≡ Some i → (k : ℕ) → run (suc k) m ≡ go_on (act i m) (run k)
-one m i h k =
-    let t : (m.pc == halt) ≡ false = apart m.pc (guard (nat_le 65536 m.pc && m.pc % 4 == 0) (decoded (slice_get m.text ((m.pc - 65536) / 4))) i h) in
-    ap (λ b. go_on (cond b (Some Returned, m) (act_if (fetch m.text m.pc) m)) (run k)) t ∙ ap (λ o. go_on (act_if o m) (run k)) h
+one m i h k = ap (λ g. go_on g (run k)) (steps_to m i h)
 
--- an instruction that gives the next machine leads there
+-- an instruction that gives the next machine is a step to it
+pub once : (m m' : Machine) (i : Inst) → fetch m.text m.pc ≡ Some i → act i m ≡ (None, m') → Goes 1 m m'
+once m m' i h e = running.once step m m' (steps_to m i h ∙ e)
+
 pub leads : (m m' : Machine) (i : Inst) → fetch m.text m.pc ≡ Some i → act i m ≡ (None, m') → Leads m m'
-leads m m' i h e = record { by = λ k. (suc k, one m i h k ∙ ap (λ g. go_on g (run k)) e) }
+leads m m' i h e = led 1 m m' (once m m' i h e)
 
 pub op : (m : Machine) (o : RegisterOp) (rd a b n : ℕ) → fetch m.text m.pc ≡ Some (Op o rd a b) → register_result o (reg m.regs a) (reg m.regs b) ≡ n → Leads m (with_reg m rd n)
 op m o rd a b n h e = leads m (with_reg m rd n) (Op o rd a b) h (ap (λ v. (None, with_reg m rd v)) e)
@@ -172,12 +151,6 @@ trap m n h e low high =
     ∙ ap (λ b. (Some (cond b (Trapped n) (Fault m.pc)), m)) (trap_test n low high)
 
 -- a stop changes nothing
-
-goes_on : (next m m' : Machine) (stop : Stop) (g : Gives) → g ≡ (None, next) → g ≡ (Some stop, m') → m' ≡ m
-goes_on next m m' stop g e h = let none : None ≡ Some stop = ap (λ (q : Gives). q.0) (sym e ∙ h) in cc
-
-halts : (m m' : Machine) (s stop : Stop) (g : Gives) → g ≡ (Some s, m) → g ≡ (Some stop, m') → m' ≡ m
-halts m m' s stop g e h = ap (λ (q : Gives). q.1) (sym h ∙ e)
 
 load_stops : (o : Option ℕ) (m m' : Machine) (address : ℕ) (after : ℕ → Machine) (stop : Stop) → on_load m address o after ≡ (Some stop, m') → m' ≡ m
 load_stops None m m' address after stop h = halts m m' (Fault address) stop _ refl h

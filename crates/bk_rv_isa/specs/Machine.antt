@@ -1,5 +1,5 @@
 -- The machine, its step and its start.
-use Rattle.std.specs.Prelude.{◌≡◌, ◌≤◌, ℕ, zero, suc, ℤ, pos, List, [], ◌∷◌, ◌++◌, length, ◌+◌, ◌*◌, ◌-◌, ◌/◌, ◌%◌, ◌^◌, ◌*ℤ◌, ◌-ℤ◌, Bool, true, false, not, nat_lt, nat_le, int_lt, ◌&&◌, ◌==◌, if◌then◌else◌, Option, Some, None, slice_get, slice_index, slice_set, replicate, bit_and, bit_or, bit_xor, int_div, int_rem}
+use Rattle.std.specs.Prelude.{◌≡◌, ◌≤◌, ℕ, ℤ, pos, List, [], ◌∷◌, ◌++◌, length, ◌+◌, ◌*◌, ◌-◌, ◌/◌, ◌%◌, ◌^◌, ◌*ℤ◌, ◌-ℤ◌, Bool, true, false, not, nat_lt, nat_le, int_lt, ◌&&◌, ◌==◌, if◌then◌else◌, Option, Some, None, slice_index, slice_set, replicate, min, map, drop, bit_and, bit_or, bit_xor, int_div, int_rem}
 use Rattle.std.specs.Int.{int_div_euclid}
 use Rattle.bk_num.specs.Word.{signed, residue, high_half}
 use Rattle.bk_rv_isa.specs.declared.inst.RegisterOp.{RegisterOp}
@@ -16,23 +16,14 @@ use Rattle.bk_rv_isa.specs.declared.inst.BranchOp.{BranchOp}
 use Rattle.bk_rv_isa.specs.declared.inst.BranchOp.TheVariants.{Beq, Bne, Blt, Bge, Bltu, Bgeu}
 use Rattle.bk_rv_isa.specs.declared.inst.Inst.{Inst}
 use Rattle.bk_rv_isa.specs.declared.inst.Inst.TheVariants.{Op, OpImm, Shift, Addiw, Load, Store, Branch, Lui, Auipc, Jal, Jalr, Ebreak}
-use Rattle.bk_rv_isa.specs.declared.stop.Stop.{Stop}
-use Rattle.bk_rv_isa.specs.declared.stop.Stop.TheVariants.{Returned, Trapped, Fault}
+use Rattle.bk_machine.specs.declared.stop.Stop.TheVariants.{Returned, Trapped, Fault}
 use Rattle.bk_rv_isa.specs.Encoding.{decoding}
 use Rattle.bk_num.specs.Bytes.{each_bytes}
 use Rattle.bk_num.specs.Memory.{pool_base, data_base, read, write}
-
--- where the text begins
-abbrev pub text_base : ℕ
-text_base = 65536
-
--- where the stack ends; the words of the started function's arguments and results stand there and above
-abbrev pub stack_top : ℕ
-stack_top = 536870912
-
--- the return address that halts
-abbrev pub halt : ℕ
-halt = 61440
+pub use Rattle.bk_num.specs.Addresses.{text_base, stack_top, halt}
+pub use Rattle.bk_machine.specs.Runs.{go_on}
+use Rattle.bk_machine.specs.Runs as runs
+use Rattle.bk_machine.specs.Texts as texts
 
 -- the pc, the 32 registers, the text's words, the bytes of the pool, the data window and the stack, and the address of the first stack byte
 pub record Machine : Type 0 where
@@ -66,12 +57,11 @@ flag b = if b then 1 else 0
 
 -- the instruction of a word, if there is a word
 abbrev pub decoded : Option ℕ → Option Inst
-decoded None = None
-decoded (Some w) = decoding w
+decoded w = texts.decoded decoding w
 
 -- the instruction at the pc: none outside the text, between its words, and at a word outside the table
 abbrev pub fetch : List ℕ → ℕ → Option Inst
-fetch text pc = if nat_le text_base pc && pc % 4 == 0 then decoded (slice_get text ((pc - text_base) / 4)) else None
+fetch text pc = texts.fetch decoding text pc
 
 -- what a load reads
 abbrev pub load : Machine → ℕ → ℕ → Option ℕ
@@ -168,7 +158,7 @@ is_taken Bgeu x y = nat_le y x
 
 -- what a step gives: the stop if there is one, and the machine after it
 abbrev pub Gives : Type 0
-Gives = Option Stop × Machine
+Gives = runs.Gives Machine
 
 -- a load that reads no window is a fault at its address
 abbrev pub on_load : Machine → ℕ → Option ℕ → (ℕ → Machine) → Gives
@@ -206,29 +196,31 @@ act_if (Some i) m = act i m
 abbrev pub step : Machine → Gives
 step m = if m.pc == halt then (Some Returned, m) else act_if (fetch m.text m.pc) m
 
--- what follows where there was no stop
-abbrev pub go_on : Gives → (Machine → Gives) → Gives
-go_on (None, m) f = f m
-go_on (Some stop, m) f = (Some stop, m)
-
 -- at most n steps, up to the first stop
 abbrev pub run : ℕ → Machine → Gives
-run zero m = (None, m)
-run (suc n) m = go_on (step m) (run n)
+run n m = runs.run step n m
 
--- the arguments' words
+-- the words of the arguments in their cells; those of the first eight, which stand in registers, are 0
+abbrev pub cells : List ℕ → List ℕ
+cells args = replicate (min 8 (length args)) 0 ++ drop 8 args
+
+-- the bytes of the arguments' cells
 abbrev pub argument_words : List ℕ → List ℕ
-argument_words args = each_bytes 8 args
+argument_words args = each_bytes 8 (cells args)
 
--- x1 is the return address that halts, x2 the stack's top, x27 the stack bound
-abbrev pub start_regs : ℕ → List ℕ
-start_regs stack = 0 ∷ halt ∷ stack_top ∷ (replicate 24 0 ++ (stack_top - stack) ∷ replicate 4 0)
+-- the first eight numbers, 0 where there are fewer
+abbrev pub first_eight : List ℕ → List ℕ
+first_eight args = map (slice_index args) (0 ∷ 1 ∷ 2 ∷ 3 ∷ 4 ∷ 5 ∷ 6 ∷ 7 ∷ [])
 
--- the machine at the start of the function at `pc`, with `stack` bytes below the words of its arguments and of its results
+-- x1 is the return address that halts, x2 the stack's top, x27 the stack bound; x10 to x17 hold the first eight arguments
+abbrev pub start_regs : ℕ → List ℕ → List ℕ
+start_regs stack args = 0 ∷ halt ∷ stack_top ∷ (replicate 7 0 ++ (first_eight args ++ (replicate 9 0 ++ (stack_top - stack) ∷ replicate 4 0)))
+
+-- the machine at the start of the function at `pc`, with `stack` bytes below the cells of its arguments and of its results
 abbrev pub start : List ℕ → List ℕ → List ℕ → ℕ → List ℕ → ℕ → ℕ → Machine
 start text pool window pc args results stack = record {
   pc = pc;
-  regs = start_regs stack;
+  regs = start_regs stack args;
   text = text;
   pool = pool;
   window = window;
@@ -243,14 +235,15 @@ pub record IsPlaced (m : Machine) : Type 0 where
 
 -- these instructions stand in the text from the pc on
 abbrev pub HasAt : List ℕ → ℕ → List Inst → Type 0
-HasAt text pc [] = Unit {0}
-HasAt text pc (i ∷ is) = (fetch text pc ≡ Some i) × HasAt text (pc + 4) is
+HasAt text pc is = texts.HasAt decoding text pc is
 
 -- the words begin with these instructions
 abbrev pub Begins : List ℕ → List Inst → Type 0
-Begins words [] = Unit {0}
-Begins [] (i ∷ is) = ⊥
-Begins (w ∷ ws) (i ∷ is) = (decoding w ≡ Some i) × Begins ws is
+Begins words is = texts.Begins decoding words is
+
+-- after this many steps, none of which stops, the first machine is the second
+abbrev pub Goes : ℕ → Machine → Machine → Type 0
+Goes steps m m' = runs.Goes step steps m m'
 
 -- from the first machine comes the second: each run of the second ends a run of the first
 pub record Leads (m m' : Machine) : Type 0 where

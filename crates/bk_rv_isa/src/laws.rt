@@ -1,6 +1,6 @@
 ghost use Rattle.std.specs.Prelude.{◌≡◌, ℕ, List, ◌+◌, ◌<◌, ◌≤◌, ◌^◌, ◌⊎◌, Some};
 ghost use Rattle.bk_rv_isa.specs.declared.inst.Inst.{Inst};
-ghost use Rattle.bk_rv_isa.specs.declared.stop.Stop.{Stop};
+ghost use Rattle.bk_machine.specs.declared.stop.Stop.{Stop};
 ghost use Rattle.bk_rv_isa.specs.Encoding.{encoding, decoding};
 ghost use Rattle.bk_rv_isa.specs.Machine.{Machine, IsPlaced, load, store, with_windows, step};
 

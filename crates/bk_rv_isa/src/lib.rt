@@ -8,10 +8,9 @@ mod decoder;
 mod encoder;
 mod inst;
 mod laws;
-mod stop;
 
+pub use bk_machine::Stop;
 pub use decoder::decode;
 pub use encoder::encode;
 pub use inst::{BranchOp, ImmediateOp, Inst, LoadOp, RegisterOp, ShiftOp, StoreOp};
 pub use laws::{a_stop_changes_nothing, memory_keeps_its_bytes, one_word_each};
-pub use stop::Stop;

@@ -8,7 +8,7 @@ mod starting;
 mod steps;
 mod values;
 
-pub use bk_rv_isa::Stop;
+pub use bk_machine::Stop;
 pub use errors::StartError;
 pub use machine::Machine;
 pub use returned::results;

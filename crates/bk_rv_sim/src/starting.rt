@@ -1,5 +1,5 @@
 //! The machine at the start of a function.
-ghost use Rattle.std.specs.Prelude.{◌≡◌, ◌≤◌, ◌+◌, ◌*◌, ◌++◌, length, replicate, true, false, ◌↔◌, IfOk, IsErrOf, IsSomeAnd};
+ghost use Rattle.std.specs.Prelude.{◌≡◌, ◌≤◌, ◌+◌, ◌*◌, ◌++◌, length, replicate, slice_index, true, false, ◌↔◌, IfOk, OnOk, IsErrOf, IsSomeAnd};
 ghost use Rattle.bk_ops.specs.declared.types.Target.TheVariants.{Riscv64};
 ghost use Rattle.bk_func.specs.Arguments.{fit};
 ghost use Rattle.bk_num.specs.Bytes.{each_bytes};
@@ -12,15 +12,14 @@ use crate::errors::StartError;
 use crate::machine::Machine;
 use bk_elf::{Image, Memory, function};
 use bk_func::{Sig, copy_sig, fit};
-use bk_num::push_each;
+use bk_num::{HALT, STACK_TOP, push_each};
 use bk_ops::Target;
 use std::alloc::{AllocError, Global};
 
-const STACK_TOP: u64 = 536_870_912;
-
-const HALT: u64 = 61_440;
-
 const WORD_SIZE: usize = 8;
+
+// The arguments that stand in registers.
+const IN_REGISTERS: usize = 8;
 
 // The bytes of the constants.
 fn pool_bytes(alloc: Global, constants: &[u64]) -> Result<Vec<u8>, AllocError>
@@ -31,20 +30,72 @@ fn pool_bytes(alloc: Global, constants: &[u64]) -> Result<Vec<u8>, AllocError>
     Ok(bytes)
 }
 
-// x1 is the return address that halts, x2 the stack's top and x27 the stack bound.
-fn registers(alloc: Global, stack: u64) -> Result<Vec<u64>, AllocError>
-    requires { stack ≤ 1048576 }
-    ensures { IfOk result (λ regs. regs.items ≡ start_regs stack) }
+// An argument, 0 where there are fewer.
+fn argument(args: &[u64], place: usize) -> u64
+    ensures { result ≡ slice_index args.now place }
 {
+    match args.get(place) {
+        Some(n) => *n,
+        None => 0,
+    }
+}
+
+// x1 is the return address that halts, x2 the stack's top and x27 the stack bound; x10 to x17 hold
+// the first eight arguments.
+fn registers(alloc: Global, args: &[u64], stack: u64) -> Result<Vec<u64>, AllocError>
+    requires { stack ≤ 1048576 }
+    ensures { IfOk result (λ regs. regs.items ≡ start_regs stack args.now) }
+{
+    let arg = |place: usize| argument(args, place);
     let bound = STACK_TOP - stack;
     let regs = [
-        0, HALT, STACK_TOP, 0, 0, 0, 0, 0, 0, 0, 0, 0, 0, 0, 0, 0, 0, 0, 0, 0, 0, 0, 0, 0, 0, 0, 0,
-        bound, 0, 0, 0, 0,
+        0,
+        HALT,
+        STACK_TOP,
+        0,
+        0,
+        0,
+        0,
+        0,
+        0,
+        0,
+        arg(0),
+        arg(1),
+        arg(2),
+        arg(3),
+        arg(4),
+        arg(5),
+        arg(6),
+        arg(7),
+        0,
+        0,
+        0,
+        0,
+        0,
+        0,
+        0,
+        0,
+        0,
+        bound,
+        0,
+        0,
+        0,
+        0,
     ];
     Ok(Vec::from_array(alloc, regs)?)
 }
 
-// Zeros, the words of the arguments, and zeros for the words of the results.
+// Appends the cells of the arguments.
+fn push_cells(out: &mut Vec<u8>, args: &[u64]) -> Result<(), AllocError>
+    ensures { OnOk result (out.new.items ≡ out.old.items ++ argument_words args.now) }
+{
+    let low = args.len().min(IN_REGISTERS);
+    out.resize(out.len() + WORD_SIZE * low, 0)?;
+    push_each(out, WORD_SIZE, &args[low..])?;
+    Ok(())
+}
+
+// Zeros, the cells of the arguments, and zeros for those of the results.
 fn stack_bytes(alloc: Global, sig: &Sig, args: &[u64], stack: u64) -> Result<Vec<u8>, AllocError>
     requires stack { stack ≤ 1048576 }
     requires few { length sig.now.args + length sig.now.results ≤ 64 }
@@ -52,7 +103,7 @@ fn stack_bytes(alloc: Global, sig: &Sig, args: &[u64], stack: u64) -> Result<Vec
 {
     let mut bytes = Vec::new(alloc);
     bytes.resize(stack as usize, 0)?;
-    push_each(&mut bytes, WORD_SIZE, args)?;
+    push_cells(&mut bytes, args)?;
     bytes.resize(bytes.len() + WORD_SIZE * sig.results.len(), 0)?;
     Ok(bytes)
 }
@@ -74,7 +125,7 @@ fn started(
     requires fit { fit Riscv64 sig.now.args args.now ≡ true }
     ensures { IfOk result (IsStarted image.now address sig.now args.now window.now stack) }
 {
-    let regs = registers(alloc, stack)?;
+    let regs = registers(alloc, args, stack)?;
     let text = Vec::from_slice(alloc, &image.text)?;
     let pool = pool_bytes(alloc, &image.pool)?;
     let window = Vec::from_slice(alloc, window)?;

@@ -8,16 +8,9 @@ use crate::values::{
     extended, immediate_result, is_taken, load_result, load_size, plus, register_result,
     shift_result, store_size,
 };
-use bk_num::{load_in, residue, store_in};
-use bk_rv_isa::{Inst, LoadOp, Stop, StoreOp, decode};
-
-const TEXT_BASE: u64 = 65_536;
-
-const POOL_BASE: u64 = 33_554_432;
-
-const DATA_BASE: u64 = 67_108_864;
-
-const HALT: u64 = 61_440;
+use bk_machine::Stop;
+use bk_num::{DATA_BASE, HALT, POOL_BASE, TEXT_BASE, load_in, residue, store_in};
+use bk_rv_isa::{Inst, LoadOp, StoreOp, decode};
 
 fn reg(regs: &[u64], k: u8) -> u64
     ensures { result ≡ reg regs.now k }

@@ -3,7 +3,7 @@
 pub enum Stop {
     /// The machine is at the return address that halts.
     Returned,
-    /// UDF with this number, from 1 to 6.
+    /// The machine's trap with this number, from 1 to 6.
     Trapped(u8),
     /// The bound's steps were made without a stop.
     Going,
