@@ -1,5 +1,9 @@
 //! Package texts.
 
+/// A sum of two arguments.
+pub const ADD: &str =
+    "add func(a int, b int) int\nb1:\nv1 = InitMem <mem>\nv2 = Arg <int> {a}\nv3 = Arg <int> {b}\nv4 = Add64 <int> v2 v3\nv5 = MakeResult <int,mem> v4 v1\nRet v5\n";
+
 /// A value that one of two walks leaves out.
 pub const USE: &str =
     "u func(c bool) int\nb1:\nv1 = InitMem <mem>\nv2 = Arg <bool> {c}\nIf v2 -> b2 b3\nb2: <- b1\nv3 = Const64 <int> [1]\nPlain -> b3\nb3: <- b1 b2\nv4 = MakeResult <int,mem> v3 v1\nRet v4\n";
