@@ -14,10 +14,10 @@ use std::alloc::Global;
 
 /// Runs the command that the words name: the bytes that it makes go to `out`, a refusal's line to `err`.
 ///
-/// The rows of words are `check TARGET`, `gen N`, `run NAME BOUND ARG..`, `eval TARGET NAME BOUND ARG..` and `rules`. `extra` is not read and `gate` not asked by these rows. The status is 0,
-/// or that of the refusal: 2 where the words are in no row, 3 where the text is refused, 4 after a failed read, 5 after a
-/// failed write, 6 without memory, 8 where the input is no object, 10 where there is no such function or the arguments
-/// do not fit.
+/// The rows of words are `check TARGET`, `gen N`, `run NAME BOUND ARG..`, `eval TARGET NAME BOUND ARG..` and `rules`.
+/// `extra` is not read and `gate` not asked by these rows. The status is 0, or that of the refusal: 2 where the words are
+/// in no row, 3 where the text is refused, 4 after a failed read, 5 after a failed write, 6 without memory, 8 where the
+/// input is no object, 10 where there is no such function or the arguments do not fit.
 pub fn backend<S: Source, X: Source, K: Sink, E: Sink, G: Gate>(
     alloc: Global,
     words: &[String],
