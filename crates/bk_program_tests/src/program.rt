@@ -7,18 +7,15 @@ mod texts;
 
 use bk_io::{MemSink, MemSource, Memory, Open};
 use bk_top::backend;
-use objects::ARM;
+use objects::{ARM, RISCV};
 use std::alloc::{AllocError, Global};
 use std::test::Fail;
-use texts::{
-    ADD, ADD_CODE, CONSTANT, DROPPED, EARLY, LEQ, LOOP, NO_SUCH, STORE, SWAP, TURNED, TURNED_CODE,
-    TWICE, UNSIGNED, USE,
-};
+use texts::{ADD, DROPPED, LEQ, LOOP, NO_SUCH, STORE, SWAP, TWICE, USE};
 
 /// The words, the input, and what they leave: the status and the texts on the output and on the error stream.
 struct Row(&'static str, &'static str, u8, &'static str, &'static str);
 
-const TEXTS: [Row; 57] = [
+const TEXTS: [Row; 45] = [
     Row("check arm", "", 0, "ok 0 functions 0 values\n", ""),
     Row("check riscv64", ADD, 0, "ok 1 functions 5 values\n", ""),
     Row(
@@ -46,20 +43,8 @@ const TEXTS: [Row; 57] = [
         "",
         "line 1: limit window\n",
     ),
-    Row("compile riscv64 1", "x", 3, "", "line 1: syntax\n"),
-    Row("compile riscv64 1", TWICE, 3, "", "line 4: duplicate\n"),
-    Row("compile riscv64 1", CONSTANT, 3, "", "not yet\n"),
-    Row("compile riscv64 1", LOOP, 3, "", "not yet\n"),
-    Row("compile riscv64 1", SWAP, 3, "", "not yet\n"),
-    Row("compile riscv64 1", STORE, 3, "", "not yet\n"),
-    Row("compile riscv64 1", LEQ, 3, "", "not yet\n"),
-    Row("compile riscv64 1", EARLY, 3, "", "not yet\n"),
-    Row("compile riscv64 1", UNSIGNED, 3, "", "not yet\n"),
-    Row("compile riscv64 1", USE, 3, "", "function u: form use v4\n"),
-    Row("compile riscv64 1", NO_SUCH, 3, "", "undefined nosuch\n"),
+    Row("compile riscv64 1", ADD, 2, "", "words\n"),
     Row("compile mips 1", ADD, 2, "", "words\n"),
-    Row("compile riscv64 2", ADD, 2, "", "words\n"),
-    Row("compile riscv64 1 (Add64", ADD, 2, "", "words\n"),
     Row("check", ADD, 2, "", "words\n"),
     Row("check mips", ADD, 2, "", "words\n"),
     Row("gen 0", "", 2, "", "words\n"),
@@ -204,14 +189,6 @@ fn answered(alloc: Global, line: &str, text: &[u8], faults: Failing) -> Result<L
     Ok(Left { status, out, err })
 }
 
-fn bytes_of(alloc: Global, code: &[u32]) -> Result<Vec<u8>, AllocError> {
-    let mut bytes = Vec::new(alloc);
-    for word in code {
-        bytes.extend_from_slice(&word.to_le_bytes())?;
-    }
-    Ok(bytes)
-}
-
 #[test]
 fn texts_and_refusals(rt: HostRuntime) -> Result<(), Memory> {
     for Row(words, text, status, out, err) in &TEXTS {
@@ -251,35 +228,14 @@ fn changed(alloc: Global, bytes: &[u8], place: usize, others: &[u8]) -> Result<V
 /// Where the text begins in the file of an object for riscv64.
 const TEXT_PLACE: usize = 232;
 
-#[test]
-fn code(rt: HostRuntime) -> Result<(), Memory> {
-    for (text, code) in [(ADD, ADD_CODE), (TURNED, TURNED_CODE)] {
-        let left = answered(rt.alloc(), "compile riscv64 1", text.as_bytes(), NO_FAULT)?;
-        let bytes = bytes_of(rt.alloc(), &code)?;
-        assert_eq!(rt; left.status, 0);
-        assert_eq!(rt; left.out.bytes().len(), 968);
-        assert!(rt;
-            left.out
-                .bytes()
-                .get(TEXT_PLACE..)
-                .unwrap_or(&[])
-                .starts_with(&bytes)
-        );
-    }
-    let left = answered(rt.alloc(), "compile riscv64 1", b"", NO_FAULT)?;
-    assert_eq!(rt; left.status, 0);
-    assert_eq!(rt; left.out.bytes().len(), 832);
-    Ok(())
-}
-
 /// The words, and what they leave over the object of the sum: the status and the texts on the output and on the error stream.
 struct Run(&'static str, u8, &'static str, &'static str);
 
-/// A function of seventeen steps returns in the eighteenth.
+/// A function of nine steps returns in the tenth.
 const RUNS: [Run; 11] = [
     Run("run add 100 2 3", 0, "returned 5\n", ""),
-    Run("run add 18 2 3", 0, "returned 5\n", ""),
-    Run("run add 17 2 3", 0, "going\n", ""),
+    Run("run add 10 2 3", 0, "returned 5\n", ""),
+    Run("run add 9 2 3", 0, "going\n", ""),
     Run("run add 0 2 3", 0, "going\n", ""),
     Run("run add 100 -7 2", 0, "returned -5\n", ""),
     Run(
@@ -322,15 +278,15 @@ const CHANGES: [Change; 7] = [
 #[test]
 fn runs(rt: HostRuntime) -> Result<(), Memory> {
     let alloc = rt.alloc();
-    let add = answered(alloc, "compile riscv64 1", ADD.as_bytes(), NO_FAULT)?;
+    let add = bytes_of_hex(alloc, &RISCV)?;
     for Run(words, status, out, err) in &RUNS {
-        let left = answered(alloc, words, add.out.bytes(), NO_FAULT)?;
+        let left = answered(alloc, words, &add, NO_FAULT)?;
         assert_eq!(rt; left.status, *status, "{words}");
         assert_eq!(rt; left.out.bytes(), out.as_bytes(), "{words}");
         assert_eq!(rt; left.err.bytes(), err.as_bytes(), "{words}");
     }
     for Change(place, others, status, out, err) in &CHANGES {
-        let object = changed(alloc, add.out.bytes(), *place, others)?;
+        let object = changed(alloc, &add, *place, others)?;
         let left = answered(alloc, "run add 100 2 3", &object, NO_FAULT)?;
         assert_eq!(rt; left.status, *status, "{place}");
         assert_eq!(rt; left.out.bytes(), out.as_bytes(), "{place}");
@@ -405,22 +361,13 @@ fn prefixes(rt: HostRuntime) -> Result<(), Memory> {
 #[test]
 fn faults(rt: HostRuntime) -> Result<(), Memory> {
     let ends = [
-        ("compile riscv64 1", 0, 100, 100, 4, 0, "read fault\n"),
+        ("check riscv64", 0, 100, 100, 4, 0, "read fault\n"),
         ("check arm", 1, 100, 100, 4, 0, "read fault\n"),
         ("run add 10 1 2", 1, 100, 100, 4, 0, "read fault\n"),
-        (
-            "compile riscv64 1",
-            u64::MAX,
-            20,
-            100,
-            5,
-            20,
-            "write fault\n",
-        ),
         ("check riscv64", u64::MAX, 20, 100, 5, 20, "write fault\n"),
         ("gen 2", 0, 20, 100, 5, 20, "write fault\n"),
         ("check", u64::MAX, 100, 3, 5, 0, "wor"),
-        ("compile riscv64 1", 0, 100, 0, 5, 0, ""),
+        ("check riscv64", 0, 100, 0, 5, 0, ""),
     ];
     for (words, read, room, error_room, status, out, err) in ends {
         let faults = Failing {

@@ -7,10 +7,10 @@ use Rattle.bk_num.specs.Bytes.{each_bytes}
 use Rattle.bk_ops.specs.declared.types.Target.TheVariants.{Arm, Riscv64}
 use Rattle.bk_ops.specs.declared.types.Ty.{Ty}
 use Rattle.bk_elf.specs.Records.{ObjectRecord}
-use Rattle.bk_rv_isa.specs.declared.stop.Stop.{Stop as RiscvStop}
+use Rattle.bk_machine.specs.declared.stop.Stop.{Stop as RiscvStop}
 use Rattle.bk_rv_isa.specs.Machine as riscv
 use Rattle.bk_rv_sim.specs.View as riscv_view
-use Rattle.bk_arm_isa.specs.declared.stop.Stop.{Stop as ArmStop}
+use Rattle.bk_machine.specs.declared.stop.Stop.{Stop as ArmStop}
 use Rattle.bk_arm_isa.specs.Machine as arm
 use Rattle.bk_arm_sim.specs.View as arm_view
 use Rattle.bk_top.specs.Outcomes.{OutcomeRecord, outcome_line}

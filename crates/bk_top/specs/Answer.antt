@@ -1,12 +1,10 @@
 -- What the program answers to its words and its input.
-use Rattle.std.specs.Prelude.{◌≡◌, ℕ, ◌<◌, ◌≤◌, List, ◌++◌, length, take, map, sum_by, Option, IfSome, IsTrue, All, false, Ok, Err, codes}
+use Rattle.std.specs.Prelude.{◌≡◌, ℕ, ◌<◌, ◌≤◌, List, ◌++◌, length, take, sum_by, Option, IfSome, Ok, Err, codes}
 use Rattle.bk_ops.specs.declared.types.Target.{Target}
-use Rattle.bk_ops.specs.declared.types.Target.TheVariants.{Riscv64}
 use Rattle.std.specs.Fmt.{decimal}
 use Rattle.std.specs.Io.KnownBytes.{Appends}
 use Rattle.bk_io.specs.Faults.{Rose}
 use Rattle.bk_elf.specs.declared.errors.LoadError.{LoadError}
-use Rattle.bk_elf.specs.File.{file_of}
 use Rattle.bk_elf.specs.Loading.{loaded}
 use Rattle.bk_func.specs.Records.{PackageRecord}
 use Rattle.bk_dump.specs.declared.read.errors.DumpError.{DumpError}
@@ -14,37 +12,13 @@ use Rattle.bk_dump.specs.declared.read.errors.DumpError.TheVariants as why
 use Rattle.bk_dump.specs.Print.{text_of}
 use Rattle.bk_dump.specs.Generate.{generated}
 use Rattle.bk_top.specs.declared.refusal.Refusal.{Refusal}
-use Rattle.bk_top.specs.declared.refusal.Refusal.TheVariants.{Words, ReadFault, TooLong, Syntax, Limit, Duplicate, Undefined, FormFault, NotYet, Object, Function, Arguments, WriteFault, Memory}
-use Rattle.bk_top.specs.Commands.{CommandRecord, compile_row, check_row, generate_row, run_row, evaluate_row, rules_row, Asks}
+use Rattle.bk_top.specs.declared.refusal.Refusal.TheVariants.{Words, ReadFault, TooLong, Syntax, Limit, Duplicate, Undefined, FormFault, Object, Function, Arguments, WriteFault, Memory}
+use Rattle.bk_top.specs.Commands.{CommandRecord, check_row, generate_row, run_row, evaluate_row, rules_row, Asks}
 use Rattle.bk_top.specs.Refusals.{status, line}
-use Rattle.bk_top.specs.Sums.{is_sums}
-use Rattle.bk_top.specs.Routine.{routine_of}
-use Rattle.bk_top.specs.Meaning.{Returns}
-use Rattle.bk_top.specs.Pieces.{func_piece, name_in, object_of}
-use Rattle.bk_top.specs.Runs.{Serves}
 use Rattle.bk_top.specs.Running.{Runs, LacksFunction, Misfits}
 use Rattle.bk_top.specs.Package.{ReadsAs, text_limit}
 use Rattle.bk_top.specs.Evaluating.{Evaluates, LacksNamed, MisfitsNamed}
 use Rattle.bk_top.specs.Listing.{listing}
-
--- The bytes are the file of the object of a package of sums, which is loaded as this object; there each function gives what
--- it returns.
-pub record Translates (pkg : PackageRecord) (bytes : List ℕ) : Type 0 where
-  pub adds : IsTrue (is_sums pkg)
-  pub file : bytes ≡ file_of (object_of (map (func_piece pkg.names) pkg.funcs))
-  pub loads : loaded bytes ≡ Ok (object_of (map (func_piece pkg.names) pkg.funcs))
-  pub serve : All (λ f. Serves (object_of (map (func_piece pkg.names) pkg.funcs)) (name_in pkg.names f) (routine_of f) (Returns pkg f)) pkg.funcs
-
--- what `compile` makes: the file of the package that the text reads as
-abbrev pub Compiles : List ℕ → List ℕ → Type 0
-Compiles text bytes = (p : PackageRecord) × ReadsAs text Riscv64 (Ok p) × Translates p bytes
-
--- the text reads as a package of sums, or as a package that is none
-abbrev pub HasCode : List ℕ → Type 0
-HasCode text = (p : PackageRecord) × ReadsAs text Riscv64 (Ok p) × IsTrue (is_sums p)
-
-abbrev pub HasNoCode : List ℕ → Type 0
-HasNoCode text = (p : PackageRecord) × ReadsAs text Riscv64 (Ok p) × (is_sums p ≡ false)
 
 -- the line of a package's counts
 abbrev pub counts : PackageRecord → List ℕ
@@ -60,7 +34,6 @@ IsInput input text = IfSome input (λ bytes. text ≡ bytes)
 
 -- what a command makes of an input
 abbrev pub Makes : CommandRecord → Option (List ℕ) → List ℕ → Type 0
-Makes compile_row input bytes = (text : List ℕ) × IsInput input text × Compiles text bytes
 Makes (check_row target) input bytes = (text : List ℕ) × IsInput input text × Checks target text bytes
 Makes (generate_row n) input bytes = bytes ≡ text_of (generated n)
 Makes (run_row call) input bytes = (object : List ℕ) × IsInput input object × Runs call object bytes
@@ -69,7 +42,6 @@ Makes rules_row input bytes = bytes ≡ listing
 
 -- a command that reads its input
 abbrev pub ReadsInput : CommandRecord → Type 0
-ReadsInput compile_row = Unit {0}
 ReadsInput (check_row target) = Unit {0}
 ReadsInput (generate_row n) = ⊥
 ReadsInput (run_row call) = Unit {0}
@@ -82,7 +54,6 @@ object_limit = 67108864
 
 -- the most bytes of a command's input
 abbrev pub input_limit : CommandRecord → ℕ
-input_limit compile_row = text_limit
 input_limit (check_row target) = text_limit
 input_limit (generate_row n) = text_limit
 input_limit (run_row call) = object_limit
@@ -91,25 +62,14 @@ input_limit rules_row = text_limit
 
 -- the reader of packages refuses the text of a command
 abbrev pub IsUnread : CommandRecord → List ℕ → DumpError → Type 0
-IsUnread compile_row text e = ReadsAs text Riscv64 (Err e)
 IsUnread (check_row target) text e = ReadsAs text target (Err e)
 IsUnread (generate_row n) text e = ⊥
 IsUnread (run_row call) text e = ⊥
 IsUnread (evaluate_row target call) text e = ReadsAs text target (Err e)
 IsUnread rules_row text e = ⊥
 
--- the command makes code, and the package that the text reads as has none yet
-abbrev pub IsNotYet : CommandRecord → List ℕ → Type 0
-IsNotYet compile_row text = HasNoCode text
-IsNotYet (check_row target) text = ⊥
-IsNotYet (generate_row n) text = ⊥
-IsNotYet (run_row call) text = ⊥
-IsNotYet (evaluate_row target call) text = ⊥
-IsNotYet rules_row text = ⊥
-
 -- the command runs a function of an object, and its input is none
 abbrev pub IsNoObject : CommandRecord → List ℕ → LoadError → Type 0
-IsNoObject compile_row text e = ⊥
 IsNoObject (check_row target) text e = ⊥
 IsNoObject (generate_row n) text e = ⊥
 IsNoObject (run_row call) text e = loaded text ≡ Err e
@@ -118,7 +78,6 @@ IsNoObject rules_row text e = ⊥
 
 -- the command calls a function that is not there
 abbrev pub HasNone : CommandRecord → List ℕ → Type 0
-HasNone compile_row text = ⊥
 HasNone (check_row target) text = ⊥
 HasNone (generate_row n) text = ⊥
 HasNone (run_row call) text = LacksFunction call text
@@ -127,7 +86,6 @@ HasNone rules_row text = ⊥
 
 -- the command calls a function by words that do not fit it
 abbrev pub HasOthers : CommandRecord → List ℕ → Type 0
-HasOthers compile_row text = ⊥
 HasOthers (check_row target) text = ⊥
 HasOthers (generate_row n) text = ⊥
 HasOthers (run_row call) text = Misfits call text
@@ -144,7 +102,6 @@ Spoils command text (Limit which n) = IsUnread command text (why.Limit which n)
 Spoils command text (Duplicate n) = IsUnread command text (why.Duplicate n)
 Spoils command text (Undefined name) = IsUnread command text (why.Undefined name)
 Spoils command text (FormFault func kind place) = IsUnread command text (why.FormFault func kind place)
-Spoils command text NotYet = IsNotYet command text
 Spoils command text (Object e) = IsNoObject command text e
 Spoils command text Function = HasNone command text
 Spoils command text Arguments = HasOthers command text
@@ -188,12 +145,6 @@ pub record GainsFront (words : List (List ℕ)) (input before now : Option (List
   pub bytes : List ℕ
   pub made : Makes command input bytes
   pub gained : AppendsFront before now bytes
-
--- the output gained the object of the package that the text reads as
-pub record Compiled (text : List ℕ) (before now : Option (List ℕ)) : Type 0 where
-  pub bytes : List ℕ
-  pub compiles : Compiles text bytes
-  pub gained : Appends before now bytes
 
 -- the error stream gained the line of a refusal, and the answer is its status
 abbrev pub Tells : Refusal → ℕ → Option (List ℕ) → Option (List ℕ) → Type 0

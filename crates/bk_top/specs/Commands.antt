@@ -5,7 +5,7 @@ use Rattle.bk_ops.specs.declared.types.Target.{Target}
 use Rattle.bk_ops.specs.declared.types.Target.TheVariants.{Arm, Riscv64}
 use Rattle.bk_top.specs.declared.command.call.Call.{Call}
 use Rattle.bk_top.specs.declared.command.Command.{Command}
-use Rattle.bk_top.specs.declared.command.Command.TheVariants.{Compile, Check, Generate, Run, Evaluate, Rules}
+use Rattle.bk_top.specs.declared.command.Command.TheVariants.{Check, Generate, Run, Evaluate, Rules}
 
 -- a function by its name, a bound on its run, and the words of its arguments
 pub record CallRecord : Type 0 where
@@ -15,7 +15,6 @@ pub record CallRecord : Type 0 where
 
 -- what words may ask for
 pub data CommandRecord : Type 0 where
-  compile_row : CommandRecord
   check_row : Target → CommandRecord
   generate_row : ℕ → CommandRecord
   run_row : CallRecord → CommandRecord
@@ -26,7 +25,6 @@ abbrev pub seen_call : Call → CallRecord
 seen_call c = record { name = string_bytes c.name.now; bound = c.bound; args = map string_bytes c.args.now }
 
 abbrev pub seen : Command → CommandRecord
-seen Compile = compile_row
 seen (Check target) = check_row target
 seen (Generate n) = generate_row n
 seen (Run call) = run_row (seen_call call)
@@ -42,7 +40,6 @@ call_words c = c.name ∷ decimal c.bound ∷ c.args
 
 -- the words of a command
 abbrev pub words_of : CommandRecord → List (List ℕ)
-words_of compile_row = codes "compile" ∷ codes "riscv64" ∷ codes "1" ∷ []
 words_of (check_row target) = codes "check" ∷ target_word target ∷ []
 words_of (generate_row n) = codes "gen" ∷ decimal n ∷ []
 words_of (run_row call) = codes "run" ∷ call_words call
@@ -68,7 +65,6 @@ IsCall c = (c.bound < 2 ^ 64) × All SpellsArgument c.args
 
 -- the numbers of a command are in their ranges
 abbrev pub IsInRange : CommandRecord → Type 0
-IsInRange compile_row = Unit {0}
 IsInRange (check_row target) = Unit {0}
 IsInRange (generate_row n) = (1 ≤ n) × (n ≤ 4096)
 IsInRange (run_row call) = IsCall call

@@ -6,10 +6,4 @@ pub mod Package
 pub mod Evaluating
 pub mod Listing
 pub mod Refusals
-pub mod Sums
-pub mod Routine
-pub mod Meaning
-pub mod Code
-pub mod Pieces
-pub mod Runs
 pub mod Answer

@@ -1,7 +1,6 @@
 -- What the reader of packages answers of a text.
-use Rattle.std.specs.Prelude.{ℕ, ◌≤◌, List, length, Result, Ok}
+use Rattle.std.specs.Prelude.{ℕ, List, Result}
 use Rattle.bk_ops.specs.declared.types.Target.{Target}
-use Rattle.bk_ops.specs.declared.types.Target.TheVariants.{Riscv64}
 use Rattle.bk_func.specs.Records.{PackageRecord}
 use Rattle.bk_dump.specs.declared.read.errors.DumpError.{DumpError}
 use Rattle.bk_dump.specs.Texts.{reading}
@@ -14,7 +13,3 @@ ReadsAs text target answer = reader.IsReading target answer (reading text)
 -- the most bytes of a package's text
 abbrev pub text_limit : ℕ
 text_limit = 16777216
-
--- a text within the limit reads as the package
-abbrev pub IsRead : PackageRecord → Type 0
-IsRead p = (text : List ℕ) × (length text ≤ text_limit) × ReadsAs text Riscv64 (Ok p)

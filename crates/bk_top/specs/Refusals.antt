@@ -10,7 +10,7 @@ use Rattle.bk_form.specs.declared.Place.TheVariants.{Block, Value}
 use Rattle.bk_elf.specs.declared.errors.LoadError.{LoadError}
 use Rattle.bk_elf.specs.declared.errors.LoadError.TheVariants as why
 use Rattle.bk_top.specs.declared.refusal.Refusal.{Refusal}
-use Rattle.bk_top.specs.declared.refusal.Refusal.TheVariants.{Words, ReadFault, TooLong, Syntax, Limit, Duplicate, Undefined, FormFault, NotYet, Object, Function, Arguments, WriteFault, Memory}
+use Rattle.bk_top.specs.declared.refusal.Refusal.TheVariants.{Words, ReadFault, TooLong, Syntax, Limit, Duplicate, Undefined, FormFault, Object, Function, Arguments, WriteFault, Memory}
 
 abbrev pub status : Refusal → ℕ
 status Words = 2
@@ -21,7 +21,6 @@ status (Limit which line) = 3
 status (Duplicate line) = 3
 status (Undefined name) = 3
 status (FormFault func kind place) = 3
-status NotYet = 3
 status (Object e) = 8
 status Function = 10
 status Arguments = 10
@@ -76,7 +75,6 @@ line (Duplicate n) = codes "line " ++ (decimal n ++ codes ": duplicate\n")
 line (Undefined name) = codes "undefined " ++ (string_bytes name ++ codes "\n")
 line (FormFault func kind place) =
     codes "function " ++ (string_bytes func ++ (codes ": form " ++ (kind_name kind ++ (codes " " ++ (place_name place ++ codes "\n")))))
-line NotYet = codes "not yet\n"
 line (Object e) = codes "object: " ++ object_fault e
 line Function = codes "function\n"
 line Arguments = codes "arguments\n"

@@ -8,13 +8,11 @@ use Rattle.bk_num.specs.Bytes.{each_bytes}
 use Rattle.bk_elf.specs.Records.{ObjectRecord}
 use Rattle.bk_elf.specs.Loading.{loaded}
 use Rattle.bk_elf.specs.Functions.{has_function, function_of}
-use Rattle.bk_rv_isa.specs.declared.stop.Stop.{Stop as RiscvStop}
-use Rattle.bk_rv_isa.specs.declared.stop.Stop.TheVariants as riscv_stop
+use Rattle.bk_machine.specs.declared.stop.Stop.{Stop}
+use Rattle.bk_machine.specs.declared.stop.Stop.TheVariants as stop
 use Rattle.bk_rv_isa.specs.Machine as riscv
 use Rattle.bk_rv_sim.specs.View as riscv_view
 use Rattle.bk_rv_sim.specs.Results as riscv_results
-use Rattle.bk_arm_isa.specs.declared.stop.Stop.{Stop as ArmStop}
-use Rattle.bk_arm_isa.specs.declared.stop.Stop.TheVariants as arm_stop
 use Rattle.bk_arm_isa.specs.Machine as arm
 use Rattle.bk_arm_sim.specs.View as arm_view
 use Rattle.bk_arm_sim.specs.Results as arm_results
@@ -23,23 +21,23 @@ use Rattle.bk_top.specs.Arguments.{own_stack, Gives, DoNotFit}
 use Rattle.bk_top.specs.Outcomes.{OutcomeRecord, returned, trapped, going, fault, outcome_line, first_numbers}
 
 -- how a machine ended that stopped so: the results are the numbers in their words
-abbrev pub riscv_outcome : SigRecord → riscv.Machine → RiscvStop → OutcomeRecord
-riscv_outcome sig m riscv_stop.Returned = returned (first_numbers (riscv_results.result_of m sig) (length sig.results))
-riscv_outcome sig m (riscv_stop.Trapped number) = trapped number
-riscv_outcome sig m riscv_stop.Going = going
-riscv_outcome sig m (riscv_stop.Fault address) = fault address
+abbrev pub riscv_outcome : SigRecord → riscv.Machine → Stop → OutcomeRecord
+riscv_outcome sig m stop.Returned = returned (first_numbers (riscv_results.result_of m sig) (length sig.results))
+riscv_outcome sig m (stop.Trapped number) = trapped number
+riscv_outcome sig m stop.Going = going
+riscv_outcome sig m (stop.Fault address) = fault address
 
-abbrev pub arm_outcome : SigRecord → arm.Machine → ArmStop → OutcomeRecord
-arm_outcome sig m arm_stop.Returned = returned (first_numbers (arm_results.result_of m sig) (length sig.results))
-arm_outcome sig m (arm_stop.Trapped number) = trapped number
-arm_outcome sig m arm_stop.Going = going
-arm_outcome sig m (arm_stop.Fault address) = fault address
+abbrev pub arm_outcome : SigRecord → arm.Machine → Stop → OutcomeRecord
+arm_outcome sig m stop.Returned = returned (first_numbers (arm_results.result_of m sig) (length sig.results))
+arm_outcome sig m (stop.Trapped number) = trapped number
+arm_outcome sig m stop.Going = going
+arm_outcome sig m (stop.Fault address) = fault address
 
 -- the line of a run that ended so
-abbrev pub riscv_told : SigRecord → RiscvStop × riscv.Machine → List ℕ
+abbrev pub riscv_told : SigRecord → Stop × riscv.Machine → List ℕ
 riscv_told sig end = outcome_line Riscv64 sig.results (riscv_outcome sig end.1 end.0) end.1.window
 
-abbrev pub arm_told : SigRecord → ArmStop × arm.Machine → List ℕ
+abbrev pub arm_told : SigRecord → Stop × arm.Machine → List ℕ
 arm_told sig end = outcome_line Arm sig.results (arm_outcome sig end.1 end.0) end.1.window
 
 -- the line of at most so many steps from the start of the function at an address, with these arguments

@@ -1,14 +1,13 @@
 //! What the program makes of its command and its input.
 
 ghost use Rattle.std.specs.Prelude.{◌≡◌, IfOk, IfErr};
-ghost use Rattle.bk_top.specs.Commands.{compile_row, check_row, run_row, evaluate_row, seen_call, seen, IsInRange};
+ghost use Rattle.bk_top.specs.Commands.{check_row, run_row, evaluate_row, seen_call, seen, IsInRange};
 ghost use Rattle.bk_top.specs.Answer.{Makes, Stems, ReadsInput};
 
 use crate::command::Command;
 use crate::command::call::Call;
 use crate::refusal::Refusal;
 use crate::rows::check::check;
-use crate::rows::compile::compile;
 use crate::rows::evaluate::evaluate;
 use crate::rows::generate::generated_text;
 use crate::rows::input::{OBJECT_LIMIT, TEXT_LIMIT, bytes_of};
@@ -17,15 +16,6 @@ use crate::rows::run::run;
 use bk_io::Source;
 use bk_ops::Target;
 use std::alloc::Global;
-
-/// `compile`, from the input.
-fn answer_compile<S: Source>(alloc: Global, input: &mut S) -> Result<Vec<u8>, Refusal>
-    ensures made { IfOk result (λ bytes. Makes compile_row (S.left input.old) bytes.items) }
-    ensures cause { IfErr result (Stems compile_row (S.left input.old) (S.faults input.old) (S.faults input.new)) }
-{
-    let text = bytes_of(alloc, input, TEXT_LIMIT)?;
-    compile(alloc, &text)
-}
 
 /// `check`, from the input.
 fn answer_check<S: Source>(alloc: Global, input: &mut S, target: Target) -> Result<Vec<u8>, Refusal>
@@ -71,7 +61,6 @@ pub fn answer<S: Source>(
     ensures unread { (ReadsInput (seen command.entry) → ⊥) → input.new ≡ input.old }
 {
     match command {
-        Command::Compile => answer_compile(alloc, input),
         Command::Check(target) => answer_check(alloc, input, target),
         Command::Run(call) => answer_run(alloc, input, call),
         Command::Evaluate(target, call) => answer_evaluate(alloc, input, target, call),

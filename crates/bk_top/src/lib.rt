@@ -3,14 +3,10 @@
 
 mod answer;
 mod command;
-mod emit;
 mod line;
-mod object;
 mod program;
 mod refusal;
-mod routine;
 mod rows;
-mod sums;
 mod tell;
 
 pub use program::backend;

@@ -93,7 +93,6 @@ pub fn plain_line(refusal: &Refusal) -> Option<&'static str>
     match refusal {
         Refusal::Words => Some("words\n"),
         Refusal::TooLong => Some("too long\n"),
-        Refusal::NotYet => Some("not yet\n"),
         Refusal::Function => Some("function\n"),
         Refusal::Arguments => Some("arguments\n"),
         Refusal::ReadFault => Some("read fault\n"),
@@ -121,7 +120,6 @@ pub fn line(alloc: Global, refusal: &Refusal) -> Result<String, AllocError>
         Refusal::FormFault { func, kind, place } => form_line(alloc, func, *kind, *place),
         Refusal::Words => String::from_str(alloc, "words\n"),
         Refusal::TooLong => String::from_str(alloc, "too long\n"),
-        Refusal::NotYet => String::from_str(alloc, "not yet\n"),
         Refusal::Object(error) => object_line(alloc, *error),
         Refusal::Function => String::from_str(alloc, "function\n"),
         Refusal::Arguments => String::from_str(alloc, "arguments\n"),

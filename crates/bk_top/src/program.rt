@@ -1,10 +1,9 @@
 //! The top call.
 
-ghost use Rattle.std.specs.Prelude.{◌≡◌, ◌≢◌, ◌≤◌, ◌⊎◌, ℕ, length, IfSome, map, string_bytes};
+ghost use Rattle.std.specs.Prelude.{◌≡◌, ◌≢◌, ◌≤◌, ◌⊎◌, map, string_bytes};
 ghost use Rattle.bk_io.specs.Faults.{Rose};
-ghost use Rattle.bk_top.specs.Commands.{CommandRecord, compile_row, words_of, Asks};
-ghost use Rattle.bk_top.specs.Package.{text_limit};
-ghost use Rattle.bk_top.specs.Answer.{HasCode, HasNoCode, NoFault, ReadsInput, Gains, GainsFront, Compiled, Tells, Refused};
+ghost use Rattle.bk_top.specs.Commands.{CommandRecord, Asks};
+ghost use Rattle.bk_top.specs.Answer.{ReadsInput, Gains, GainsFront, Refused};
 
 use crate::answer::answer;
 use crate::command::command_of;
@@ -15,11 +14,10 @@ use std::alloc::Global;
 
 /// Runs the command that the words name: the bytes that it makes go to `out`, a refusal's line to `err`.
 ///
-/// The rows of words are `compile riscv64 1`, `check TARGET`, `gen N`, `run NAME BOUND ARG..`,
-/// `eval TARGET NAME BOUND ARG..` and `rules`. `extra` is not read and `gate` not asked by these rows. The status is 0,
-/// or that of the refusal: 2 where the words are in no row, 3 where the text is refused, 4 after a failed read, 5 after a
-/// failed write, 6 without memory, 8 where the input is no object, 10 where there is no such function or the arguments
-/// do not fit.
+/// The rows of words are `check TARGET`, `gen N`, `run NAME BOUND ARG..`, `eval TARGET NAME BOUND ARG..` and `rules`.
+/// `extra` is not read and `gate` not asked by these rows. The status is 0, or that of the refusal: 2 where the words are
+/// in no row, 3 where the text is refused, 4 after a failed read, 5 after a failed write, 6 without memory, 8 where the
+/// input is no object, 10 where there is no such function or the arguments do not fit.
 pub fn backend<S: Source, X: Source, K: Sink, E: Sink, G: Gate>(
     alloc: Global,
     words: &[String],
@@ -33,9 +31,6 @@ pub fn backend<S: Source, X: Source, K: Sink, E: Sink, G: Gate>(
 
     // What the program gives.
     ensures made { result ≡ 0 → Gains (map string_bytes words.now) (S.left input.old) (K.written out.old) (K.written out.new) }
-    ensures compiled { result ≡ 0 → map string_bytes words.now ≡ words_of compile_row → IfSome (S.left input.old) (λ text. Compiled text (K.written out.old) (K.written out.new)) }
-    ensures complete { IfSome (S.left input.old) (λ text. map string_bytes words.now ≡ words_of compile_row → length text ≤ text_limit → HasCode text → NoFault (S.faults input.old) (S.faults input.new) → NoFault (K.faults out.old) (K.faults out.new) → NoFault (E.faults err.old) (E.faults err.new) → (result ≡ 0) ⊎ (result ≡ 6)) }
-    ensures not_yet { IfSome (S.left input.old) (λ text. map string_bytes words.now ≡ words_of compile_row → length text ≤ text_limit → HasNoCode text → NoFault (S.faults input.old) (S.faults input.new) → NoFault (E.faults err.old) (E.faults err.new) → Tells Refusal.NotYet result (E.written err.old) (E.written err.new) ⊎ (result ≡ 6)) }
 
     // When each status comes.
     ensures refused { result ≢ 0 → result ≢ 5 → Refused (map string_bytes words.now) (S.left input.old) (S.faults input.old) (S.faults input.new) result (E.written err.old) (E.written err.new) }

@@ -39,8 +39,6 @@ pub enum Refusal {
         kind: FormKind,
         place: Place,
     },
-    /// No code is made of such a package yet.
-    NotYet,
     /// The input is no object.
     Object(LoadError),
     /// No function has the name.
@@ -64,8 +62,7 @@ pub fn status(refusal: &Refusal) -> u8
         | Refusal::Limit { .. }
         | Refusal::Duplicate { .. }
         | Refusal::Undefined { .. }
-        | Refusal::FormFault { .. }
-        | Refusal::NotYet => 3,
+        | Refusal::FormFault { .. } => 3,
         Refusal::Object(_) => 8,
         Refusal::Function | Refusal::Arguments => 10,
         Refusal::ReadFault => 4,

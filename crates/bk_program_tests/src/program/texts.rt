@@ -4,36 +4,6 @@
 pub const ADD: &str =
     "add func(a int, b int) int\nb1:\nv1 = InitMem <mem>\nv2 = Arg <int> {a}\nv3 = Arg <int> {b}\nv4 = Add64 <int> v2 v3\nv5 = MakeResult <int,mem> v4 v1\nRet v5\n";
 
-/// The words of the sum's code.
-pub const ADD_CODE: [u32; 19] = [
-    0xfd810f93, 0x01bff663, 0x00500f93, 0x00100073, 0x000f8113, 0x02113023, 0x02813283, 0x00513023,
-    0x03013283, 0x00513423, 0x00013283, 0x00813303, 0x006282b3, 0x00513823, 0x01013283, 0x02513c23,
-    0x02013083, 0x02810113, 0x00008067,
-];
-
-/// The same sum, of values whose numbers do not rise.
-pub const TURNED: &str =
-    "add func(a int, b int) int\nb7:\nv3 = InitMem <mem>\nv9 = Arg <int> {a}\nv4 = Arg <int> {b}\nv7 = Add64 <int> v9 v4\nv5 = MakeResult <int,mem> v7 v3\nRet v5\n";
-
-/// The words of its code: v4 has slot 0, v7 slot 1 and v9 slot 2.
-pub const TURNED_CODE: [u32; 19] = [
-    0xfd810f93, 0x01bff663, 0x00500f93, 0x00100073, 0x000f8113, 0x02113023, 0x02813283, 0x00513823,
-    0x03013283, 0x00513023, 0x01013283, 0x00013303, 0x006282b3, 0x00513423, 0x00813283, 0x02513c23,
-    0x02013083, 0x02810113, 0x00008067,
-];
-
-/// A function of a constant.
-pub const CONSTANT: &str =
-    "k func() int\nb1:\nv1 = InitMem <mem>\nv2 = Const64 <int> [1311768467463790320]\nv3 = MakeResult <int,mem> v2 v1\nRet v3\n";
-
-/// A sum that stands before one of its arguments.
-pub const EARLY: &str =
-    "add func(a int, b int) int\nb1:\nv1 = InitMem <mem>\nv2 = Arg <int> {a}\nv4 = Add64 <int> v2 v3\nv3 = Arg <int> {b}\nv5 = MakeResult <int,mem> v4 v1\nRet v5\n";
-
-/// A sum of an `int` that is taken as an `uint64`.
-pub const UNSIGNED: &str =
-    "add func(a int, b int) int\nb1:\nv1 = InitMem <mem>\nv2 = Arg <uint64> {a}\nv3 = Arg <int> {b}\nv4 = Add64 <int> v2 v3\nv5 = MakeResult <int,mem> v4 v1\nRet v5\n";
-
 /// A value that one of two walks leaves out.
 pub const USE: &str =
     "u func(c bool) int\nb1:\nv1 = InitMem <mem>\nv2 = Arg <bool> {c}\nIf v2 -> b2 b3\nb2: <- b1\nv3 = Const64 <int> [1]\nPlain -> b3\nb3: <- b1 b2\nv4 = MakeResult <int,mem> v3 v1\nRet v4\n";

@@ -14,8 +14,6 @@ use bk_ops::Target;
 /// What the words ask for.
 #[derive(Clone, Copy)]
 pub enum Command<'a> {
-    /// `compile riscv64 1`: the code of the package that is read.
-    Compile,
     /// `check TARGET`: the counts of the package that is read.
     Check(Target),
     /// `gen N`: the text of a package of N functions that is made by a rule.
@@ -60,18 +58,6 @@ fn count_of(word: &String) -> Option<u64>
         Some(count)
     } else {
         None
-    }
-}
-
-fn compile(others: &[String]) -> Option<Command<'_>>
-    ensures found { IfSome result (λ c. Asks (codes "compile" ∷ map string_bytes others.now) (seen c)) }
-    ensures none { IfNone result ((c : CommandRecord) → Asks (codes "compile" ∷ map string_bytes others.now) c → ⊥) }
-{
-    match others {
-        [target, workers] if is_text(target, "riscv64") && is_text(workers, "1") => Some(
-            Command::Compile,
-        ),
-        _ => None,
     }
 }
 
@@ -127,9 +113,7 @@ pub fn command_of(words: &[String]) -> Option<Command<'_>>
     ensures none { IfNone result ((c : CommandRecord) → Asks (map string_bytes words.now) c → ⊥) }
 {
     let (name, others) = words.split_first()?;
-    if is_text(name, "compile") {
-        compile(others)
-    } else if is_text(name, "check") {
+    if is_text(name, "check") {
         check(others)
     } else if is_text(name, "gen") {
         generate(others)

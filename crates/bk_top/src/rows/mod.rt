@@ -2,7 +2,6 @@
 
 pub mod call;
 pub mod check;
-pub mod compile;
 pub mod evaluate;
 pub mod generate;
 pub mod input;
