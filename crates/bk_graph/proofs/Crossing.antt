@@ -14,7 +14,7 @@ use Rattle.bk_func.specs.declared.parts.Kind.TheVariants.{Plain, If, First, Ret,
 use Rattle.bk_func.specs.Records.{BlockRecord, FuncRecord}
 use Rattle.bk_func.specs.Edits.{greatest_block, place_of, IsEdge}
 use Rattle.bk_func.specs.Form.Parts.{FitsKind, IsBlockNumber}
-use Rattle.bk_graph.specs.Given.{IsGiven}
+use Rattle.bk_graph.specs.Joined.{IsJoined}
 use Rattle.bk_graph.specs.Critical.{EdgeRecord, AreEdges, has_several, edge_at, edges_from, critical_in, critical_edges}
 use Rattle.bk_graph.proofs.Listed.{two_counted, counted_at}
 use Rattle.bk_graph.proofs.Splitting.{edge_of}
@@ -81,22 +81,14 @@ pub counted_once : (f : FuncRecord) (n : ℕ) → IsBlockNumber f n → count_by
 unfolding IsBlockNumber
 counted_once f n h = h
 
-pub critical_are_edges : (f : FuncRecord) → IsGiven f → AreEdges f (critical_edges f)
+pub critical_are_edges : (f : FuncRecord) → IsJoined f → AreEdges f (critical_edges f)
 critical_are_edges f g e c =
     let (b, i, j) = contains_flat (critical_in f.blocks) f.blocks e c in
     let (k, l, r) = one_in f.blocks b e j in
-    let named = (g.formed.kinds Missing b i).block in
     subst (λ (x : EdgeRecord). IsEdge f x.from x.index) (sym (r ∙ ap (edge_at b.id) (zero-add k)))
-    (edge_of f b.id k b (sole_found f.blocks b (counted_once f b.id named.own) i) l (numbered f (slice_index b.succs k) (named.succs k 0 l)))
+    (edge_of f b.id k b (sole_found f.blocks b (counted_once f b.id (g.own b i)) i) l (numbered f (slice_index b.succs k) (g.named b i k 0 l)))
 
 -- how many they are
-
-few_succs : (k : Kind) (ss : List ℕ) (c : Option ℕ) → FitsKind k ss c → length ss ≤ 2
-few_succs Plain ss c h = omega (arith, h.0)
-few_succs If ss c h = omega (arith, h.0)
-few_succs First ss c h = omega (arith, h.0)
-few_succs Ret ss c h = rw h.0 (omega arith)
-few_succs Exit ss c h = rw h.0 (omega arith)
 
 few_from : (bs : List BlockRecord) (from i : ℕ) (ns : List ℕ) → length (edges_from bs from i ns) ≤ length ns
 few_from bs from i [] = omega arith
@@ -112,23 +104,18 @@ few_in bs b =
     elim (nat_lt 1 (length b.succs)) as (λ t. length (if t then edges_from bs b.id 0 b.succs else []) ≤ length b.succs)
     [ true ↦ h | false ↦ omega arith ]
 
-few_edges : (f : FuncRecord) → IsGiven f → length (critical_edges f) ≤ length f.blocks * 2
+few_edges : (f : FuncRecord) → IsJoined f → length (critical_edges f) ≤ length f.blocks * 2
 few_edges f g =
     subst (λ n. n ≤ length f.blocks * 2) (sym (length-flat_map (critical_in f.blocks) f.blocks))
     (sum_by-le (λ b. length (critical_in f.blocks b)) 2 f.blocks
     (λ k d l.
     let b : BlockRecord = get_or f.blocks k d in
-    let own = (g.formed.kinds Control b (Contains-get_or f.blocks k d l)).block in
-    let few : length b.succs ≤ 2 = few_succs b.kind b.succs b.control own.kind in
+    let few : length b.succs ≤ 2 = g.few b (Contains-get_or f.blocks k d l) in
     let less = few_in f.blocks b in
     omega (arith, few, less)))
 
-pub enough_numbers : (f : FuncRecord) → IsGiven f → greatest_block f + length (critical_edges f) < 2 ^ 32
-enough_numbers f g =
-    let few = few_edges f g in
-    let low : greatest_block f < 4000000000 = g.blocks in
-    let count : length f.blocks < 100000000 = g.count in
-    enough (greatest_block f) (length (critical_edges f)) (length f.blocks) low few count
+pub enough_numbers : (f : FuncRecord) → IsJoined f → greatest_block f + length (critical_edges f) < 2 ^ 32
+enough_numbers f g = enough (greatest_block f) (length (critical_edges f)) (length f.blocks) (few_edges f g) g.room
   where
-    enough : (a b c : ℕ) → a < 4000000000 → b ≤ c * 2 → c < 100000000 → a + b < 2 ^ 32
-    enough a b c l m n = omega arith
+    enough : (a b c : ℕ) → b ≤ c * 2 → a + c * 2 < 2 ^ 32 → a + b < 2 ^ 32
+    enough a b c m n = omega arith

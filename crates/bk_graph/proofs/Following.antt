@@ -19,7 +19,7 @@ use Rattle.bk_func.specs.Form.Parts.{IsBlockNumber}
 use Rattle.bk_func.specs.Form.Text.{HasBlock}
 use Rattle.bk_graph.specs.declared.order.Order.{Order}
 use Rattle.bk_graph.specs.declared.places.Places.{Places}
-use Rattle.bk_graph.specs.Given.{IsGiven}
+use Rattle.bk_graph.specs.Joined.{IsJoined}
 use Rattle.bk_graph.specs.Layout.{is_placed, is_ready, marked, if_unplaced, block_named, next_successor, next_block, onward, laid_out, layout_from}
 use Rattle.bk_graph.specs.Named.{AreFirsts, block_ids}
 use Rattle.bk_graph.specs.Placing.{if_free, first_in, unplaced_in, next_place, number_at, ready_at, IsOrder}
@@ -129,7 +129,7 @@ named_at f n h =
     (λ (past, e). absurd (omega arith))
     (slice_get_cases bs q).1
 
-module _ (f : FuncRecord) (g : IsGiven f) (m : Places) (firsts : AreFirsts (block_ids f.blocks) m) (N : List ℕ) (ps : List Bool) (marks : AreMarks f N ps) where
+module _ (f : FuncRecord) (g : IsJoined f) (m : Places) (firsts : AreFirsts (block_ids f.blocks) m) (N : List ℕ) (ps : List Bool) (marks : AreMarks f N ps) where
   unplaced_tells : (n : ℕ) → IsBlockNumber f n → Tells f (unplaced_in m ps n) (if is_placed N n then None else Some n)
   unplaced_tells n h =
       let (p, b, e, id, at) = named_at f n h in
@@ -167,10 +167,10 @@ module _ (f : FuncRecord) (g : IsGiven f) (m : Places) (firsts : AreFirsts (bloc
   place_tells : (x : Option BlockRecord) → IfSome x (HasBlock f) → Tells f (next_place m ps x) (next_successor N x)
   place_tells None h = tt
   place_tells (Some b) h =
-      let named = (g.formed.kinds Missing b h).block in
+      let named = g.named b h in
       or_tells f (option_and_then (unplaced_in m ps) (marked b.likely b.succs)) (if_unplaced N (marked b.likely b.succs))
       (first_in m ps b.succs) (find (λ n. not (is_placed N n)) b.succs)
-      (marked_tells (marked b.likely b.succs) (marked_of b.likely b.succs named.succs)) (first_tells b.succs named.succs)
+      (marked_tells (marked b.likely b.succs) (marked_of b.likely b.succs named)) (first_tells b.succs named)
 
   ready_tells : Tells f (position (is_ready N) f.blocks) (option_map (λ b. b.id) (find (is_ready N) f.blocks))
   ready_tells =

@@ -1,6 +1,8 @@
 pub mod Crossing
 pub mod Firsts
 pub mod Following
+pub mod Forming
+pub mod Joining
 pub mod Laying
 pub mod Listed
 pub mod Putting

@@ -10,7 +10,7 @@ use Rattle.std.proofs.lemmas.Option.{slice_get_within, slice_get_cases, get_or_f
 use Rattle.bk_func.specs.Records.{BlockRecord, FuncRecord}
 use Rattle.bk_func.specs.Form.Text.{HasBlock}
 use Rattle.bk_graph.specs.declared.places.Places.{Places}
-use Rattle.bk_graph.specs.Given.{IsGiven}
+use Rattle.bk_graph.specs.Joined.{IsJoined}
 use Rattle.bk_graph.specs.Layout.{is_placed, is_ready, block_named}
 use Rattle.bk_graph.specs.Named.{AreFirsts, block_ids}
 use Rattle.bk_graph.specs.Placing.{names, unplaced_in, ready_at}
@@ -23,7 +23,7 @@ pub block_at : (f : FuncRecord) (q : ℕ) (b : BlockRecord) → slice_get f.bloc
 block_at f q b e = (q, slice_get_within f.blocks q b e, get_or_from_slice_get f.blocks q b b e)
 
 -- blocks at two places have two numbers
-apart : (f : FuncRecord) → IsGiven f → (p q : ℕ) (a b : BlockRecord) → slice_get f.blocks p ≡ Some a → slice_get f.blocks q ≡ Some b
+apart : (f : FuncRecord) → IsJoined f → (p q : ℕ) (a b : BlockRecord) → slice_get f.blocks p ≡ Some a → slice_get f.blocks q ≡ Some b
     → (q ≡ p → ⊥) → a.id ≡ b.id → ⊥
 apart f g p q a b e h other same =
     other (same_Some q p (sym (place_sole f g b q h) ∙ ap (λ n. position (λ x. x == n) (block_ids f.blocks)) (sym same) ∙ place_sole f g a p e))
@@ -32,7 +32,7 @@ apart f g p q a b e h other same =
 abbrev pub AreMarks : FuncRecord → List ℕ → List Bool → Type 0
 AreMarks f N ps = (q : ℕ) (b : BlockRecord) → slice_get f.blocks q ≡ Some b → get_or ps q true ≡ is_placed N b.id
 
-pub marks_put : (f : FuncRecord) → IsGiven f → (N : List ℕ) (ps : List Bool) (p : ℕ) (a : BlockRecord) → slice_get f.blocks p ≡ Some a
+pub marks_put : (f : FuncRecord) → IsJoined f → (N : List ℕ) (ps : List Bool) (p : ℕ) (a : BlockRecord) → slice_get f.blocks p ≡ Some a
     → length ps ≡ length f.blocks → AreMarks f N ps → AreMarks f (N ++ a.id ∷ []) (set ps p true)
 marks_put f g N ps p a e size marks q b h =
     let more : is_placed (N ++ a.id ∷ []) b.id ≡ (is_placed N b.id || ((a.id == b.id) || false)) = list_any-append (λ m. m == b.id) N (a.id ∷ []) in
@@ -67,7 +67,7 @@ none_noted m ps q (s ∷ ss) h =
     shut false = refl
 
 -- the places of the blocks that are ready, when one more is placed
-pub ready_put : (f : FuncRecord) → IsGiven f → (m : Places) → AreFirsts (block_ids f.blocks) m → (N : List ℕ) (ps : List Bool) (p : ℕ) (a : BlockRecord)
+pub ready_put : (f : FuncRecord) → IsJoined f → (m : Places) → AreFirsts (block_ids f.blocks) m → (N : List ℕ) (ps : List Bool) (p : ℕ) (a : BlockRecord)
     → slice_get f.blocks p ≡ Some a → length ps ≡ length f.blocks → AreMarks f N ps → (q : ℕ) (old mid new : Bool)
     → old ≡ ready_at N (slice_get f.blocks q) → mid ≡ cond (is_at (nat_cmp p) q) false old
     → new ≡ (mid || list_any (λ s. names q (unplaced_in m (set ps p true) s)) a.succs) → new ≡ ready_at (N ++ a.id ∷ []) (slice_get f.blocks q)
@@ -102,7 +102,7 @@ ready_put f g m firsts N ps p a e size marks q old mid new before removed after 
         ∙ sym (ready_more f g N a b (block_at f p a e) (block_at f q b h) (apart f g p q a b e h other)))
 
 -- the last number is that of the block which is placed last
-pub last_put : (f : FuncRecord) → IsGiven f → (N : List ℕ) (p : ℕ) (a : BlockRecord) → slice_get f.blocks p ≡ Some a
+pub last_put : (f : FuncRecord) → IsJoined f → (N : List ℕ) (p : ℕ) (a : BlockRecord) → slice_get f.blocks p ≡ Some a
     → slice_get f.blocks p ≡ block_named f (last_or None (N ++ a.id ∷ []))
 last_put f g N p a e =
     e ∙ sym (ap (block_named f) (last_more None N a.id) ∙ sole_found f.blocks a (once f g a (block_at f p a e)) (block_at f p a e))

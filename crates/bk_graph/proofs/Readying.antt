@@ -9,7 +9,7 @@ use Rattle.std.proofs.lemmas.List.Quantifiers.{position-Some}
 use Rattle.bk_func.specs.Records.{BlockRecord, FuncRecord}
 use Rattle.bk_func.specs.Form.Text.{HasBlock}
 use Rattle.bk_graph.specs.declared.places.Places.{Places}
-use Rattle.bk_graph.specs.Given.{IsGiven}
+use Rattle.bk_graph.specs.Joined.{IsJoined}
 use Rattle.bk_graph.specs.Named.{AreFirsts, block_ids}
 use Rattle.bk_graph.specs.Layout.{is_placed, is_ready}
 use Rattle.bk_graph.specs.Placing.{if_free, unplaced_in, first_in, names}
@@ -27,7 +27,7 @@ names_free q ps (Some p) = ⊎_elim
     (cases_eq p q)
 
 -- a number's place is that of the block which bears it
-names_first : (f : FuncRecord) → IsGiven f → (b : BlockRecord) (q s : ℕ) → slice_get f.blocks q ≡ Some b
+names_first : (f : FuncRecord) → IsJoined f → (b : BlockRecord) (q s : ℕ) → slice_get f.blocks q ≡ Some b
     → names q (position (λ x. x == s) (block_ids f.blocks)) ≡ (s == b.id)
 names_first f g b q s e = ⊎_elim
     (λ (same : s ≡ b.id).
@@ -60,7 +60,7 @@ any_and p t (x ∷ xs) = rw (any_and p t xs) (elim (p x) as (λ u. ((u && t) || 
     and_false false = refl
 
 -- whether a successor of the block that is placed is the free block at a place
-pub noted : (f : FuncRecord) → IsGiven f → (m : Places) → AreFirsts (block_ids f.blocks) m → (ps : List Bool) (b : BlockRecord) (q : ℕ) (ss : List ℕ)
+pub noted : (f : FuncRecord) → IsJoined f → (m : Places) → AreFirsts (block_ids f.blocks) m → (ps : List Bool) (b : BlockRecord) (q : ℕ) (ss : List ℕ)
     → slice_get f.blocks q ≡ Some b → list_any (λ s. names q (unplaced_in m ps s)) ss ≡ (list_any (λ s. s == b.id) ss && not (get_or ps q true))
 noted f g m firsts ps b q ss e =
     any_same (λ s. names q (unplaced_in m ps s)) (λ s. (s == b.id) && not (get_or ps q true)) ss
@@ -69,7 +69,7 @@ noted f g m firsts ps b q ss e =
     ∙ any_and (λ s. s == b.id) (not (get_or ps q true)) ss
 
 -- a block is ready when one more is placed
-pub ready_more : (f : FuncRecord) → IsGiven f → (N : List ℕ) (a b : BlockRecord) → HasBlock f a → HasBlock f b → ¬ (a.id ≡ b.id)
+pub ready_more : (f : FuncRecord) → IsJoined f → (N : List ℕ) (a b : BlockRecord) → HasBlock f a → HasBlock f b → ¬ (a.id ≡ b.id)
     → is_ready (N ++ a.id ∷ []) b ≡ (is_ready N b || (list_any (λ s. s == b.id) a.succs && not (is_placed N b.id)))
 ready_more f g N a b i j apart =
     let placed : is_placed (N ++ a.id ∷ []) b.id ≡ is_placed N b.id =

@@ -2,6 +2,8 @@ pub mod Clean
 pub mod Critical
 pub mod Given
 pub mod Graphs
+pub mod Joined
+pub mod Joining
 pub mod Kinds
 pub mod Layout
 pub mod Named

@@ -8,7 +8,7 @@ use Rattle.std.specs.Ordering.{nat_cmp}
 use Rattle.bk_func.specs.Records.{BlockRecord, FuncRecord}
 use Rattle.bk_graph.specs.declared.places.Places.{Places}
 use Rattle.bk_graph.specs.declared.order.Order.{Order}
-use Rattle.bk_graph.specs.Given.{IsGiven}
+use Rattle.bk_graph.specs.Joined.{IsJoined}
 use Rattle.bk_graph.specs.Layout.{is_placed, is_ready, marked, block_named, onward}
 use Rattle.bk_graph.specs.Named.{AreFirsts, block_ids}
 
@@ -42,7 +42,7 @@ next_place m placed (Some b) = option_or (option_and_then (unplaced_in m placed)
 
 -- what is kept agrees with the numbers of the placed blocks
 pub record IsOrder (o : Order) : Type 0 where
-  pub given : IsGiven o.func.now
+  pub given : IsJoined o.func.now
   pub firsts : AreFirsts (block_ids o.func.now.blocks) o.places.now
   pub size : length o.placed.items ≡ length o.func.now.blocks
   pub placed : (p : ℕ) (b : BlockRecord) → slice_get o.func.now.blocks p ≡ Some b → slice_index_or o.placed.items p true ≡ is_placed o.numbers.items b.id

@@ -3,7 +3,7 @@ ghost use Rattle.std.specs.Prelude.{◌≡◌, ◌+◌, ◌<◌, ◌^◌, ◌++�
 ghost use Rattle.std.specs.List.{find};
 ghost use Rattle.bk_func.specs.Edits.{greatest_block};
 ghost use Rattle.bk_graph.specs.Critical.{has_several, edge_at, edges_from, critical_in, critical_edges, split_each, without_critical, AreEdges};
-ghost use Rattle.bk_graph.specs.Given.{IsGiven};
+ghost use Rattle.bk_graph.specs.Joined.{IsJoined};
 ghost use Rattle.bk_graph.specs.Named.{AreFirsts, block_ids};
 
 use crate::places::Places;
@@ -31,7 +31,7 @@ impl Model for Edge {
 ///
 /// After a refusal the function is as before.
 pub fn split_critical(alloc: Global, func: &mut Func) -> Result<(), Memory>
-    requires { IsGiven func.old }
+    requires { IsJoined func.old }
     ensures ok { OnOk result (func.new ≡ without_critical func.old) }
     ensures err { OnErr result (func.new ≡ func.old) }
 {

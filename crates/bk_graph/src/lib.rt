@@ -4,6 +4,8 @@
 mod cleaned;
 mod critical;
 mod graph;
+mod joined;
+mod laws;
 mod lists;
 mod needed;
 mod order;
@@ -14,4 +16,6 @@ mod settled;
 pub use bk_func::Memory;
 pub use cleaned::clean;
 pub use critical::split_critical;
+pub use joined::is_joined;
+pub use laws::forms_are_joined;
 pub use order::layout;

@@ -3,7 +3,7 @@ ghost use Rattle.std.specs.Prelude.{◌≡◌, ℕ, ◌<◌, ◌||◌, [], lengt
 ghost use Rattle.std.specs.List.{list_any};
 ghost use Rattle.std.specs.BTreeSet.{contains};
 ghost use Rattle.std.specs.Ordering.{nat_cmp};
-ghost use Rattle.bk_graph.specs.Given.{IsGiven};
+ghost use Rattle.bk_graph.specs.Joined.{IsJoined};
 ghost use Rattle.bk_graph.specs.Layout.{marked, is_ready, next_block, laid_out, layout_of};
 ghost use Rattle.bk_graph.specs.Named.{AreFirsts, block_ids};
 ghost use Rattle.bk_graph.specs.Placing.{if_free, first_in, unplaced_in, names, next_place, number_at, IsOrder, IsAfter};
@@ -17,10 +17,10 @@ use std::collections::BTreeSet;
 /// that it is expected to take, if that one is not placed, else its first that is not; else the first block in list
 /// order that is not placed and has a predecessor that is. Blocks that no walk leads to are left out.
 ///
-/// Form is asked for, as the order goes by numbers and the code by places: each number is to be that of one block, and
+/// Joined blocks are asked for, as the order goes by numbers and the code by places: each number is to be that of one block, and
 /// predecessors and successors are to agree.
 pub fn layout(alloc: Global, func: &Func) -> Result<Vec<u32>, Memory>
-    requires { IsGiven func.now }
+    requires { IsJoined func.now }
     ensures { IfOk result (λ order. order.items ≡ layout_of func.now) }
 {
     let places = Places::of_blocks(alloc, &func.blocks)?;
@@ -51,7 +51,7 @@ struct Order<'a> {
 impl<'a> Order<'a> {
     /// Nothing is placed.
     fn new(alloc: Global, func: &'a Func, places: &'a Places) -> Result<Order<'a>, AllocError>
-        requires given { IsGiven func.now }
+        requires given { IsJoined func.now }
         requires firsts { AreFirsts (block_ids func.now.blocks) places.now }
         ensures order { IfOk result IsOrder }
         ensures func { IfOk result (λ order. order.func.now ≡ func.now) }

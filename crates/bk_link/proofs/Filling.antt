@@ -1,9 +1,9 @@
 -- Pieces whose handles are replaced by keys, and the addresses that cells' tables tell.
-use Rattle.std.proofs.Common.{◌≡◌, ◌∙◌, ◌≢◌, ap, sym, subst, refl, ℕ, ◌+◌, ◌*◌, ◌<◌, ◌≤◌, ◌==◌, if◌then◌else◌, Bool, true, false, List, [], ◌∷◌, ◌++◌, length, map, take, drop, get_or, sum_by, arith, ⊎_elim, ◌⊎◌, inl, inr}
+use Rattle.std.proofs.Common.{◌≡◌, ◌∙◌, ◌≢◌, ap, sym, subst, refl, ℕ, ◌+◌, ◌*◌, ◌<◌, ◌≤◌, ◌==◌, if◌then◌else◌, true, List, [], ◌∷◌, ◌++◌, length, map, take, drop, get_or, sum_by, arith, ⊎_elim, ◌⊎◌, inl, inr}
 use Rattle.std.specs.List.{All}
 use Rattle.std.proofs.lemmas.Bool.{cases_lt}
 use Rattle.std.proofs.lemmas.List.{length-map, get_or-map, get_or_past}
-use Rattle.std.proofs.lemmas.List.Elements.{All-nil, All-cons, All-head, All-tail, All-map, All-weaker}
+use Rattle.std.proofs.lemmas.List.Elements.{All-head, All-tail, All-map, All-weaker}
 use Rattle.std.proofs.lemmas.List.Sums.{sum_by-cons}
 use Rattle.bk_ops.specs.declared.types.Target.{Target}
 use Rattle.bk_func.specs.Records.{FuncRecord, PackageRecord}
@@ -14,7 +14,7 @@ use Rattle.bk_piece.specs.declared.Patch.{Patch}
 use Rattle.bk_piece.specs.declared.Patch.TheVariants.{Call, Addr, Pool}
 use Rattle.bk_piece.specs.Filled.{area, word_of, key_at, site_with, piece_with, filled}
 use Rattle.bk_piece.specs.Pieces.{PieceOf, PieceRecord}
-use Rattle.bk_fixup.specs.Patches.{patched, patched_words}
+use Rattle.bk_fixup.specs.Patches.{patched}
 use Rattle.bk_link.specs.declared.cells.Addresses.{Addresses}
 use Rattle.bk_link.specs.declared.sites.Site.{Site}
 use Rattle.bk_link.specs.Addresses.{symbol_address, constant_address, address_of, find_in}

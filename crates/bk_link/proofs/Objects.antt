@@ -1,7 +1,7 @@
 -- What is gathered of linkable pieces is an object.
-use Rattle.std.proofs.Common.{◌≡◌, ◌∙◌, ◌≢◌, ap, sym, refl, true, false, cond, subst, ◌∷◌, ◌+◌, ◌*◌, ◌<◌, ℕ, suc, ◌%◌, ◌≤◌, List, length, map, arith}
-use Rattle.std.specs.Prelude.{Bool, filter, nat_lt, nat_le, ◌||◌, []}
-use Rattle.std.specs.List.{All, list_all, range_with_len}
+use Rattle.std.proofs.Common.{◌≡◌, ◌∙◌, ap, sym, refl, true, subst, ◌∷◌, ◌+◌, ◌*◌, ◌<◌, ℕ, ◌%◌, ◌≤◌, List, length, map, arith}
+use Rattle.std.specs.Prelude.{Bool, filter, nat_le, ◌||◌, []}
+use Rattle.std.specs.List.{All, list_all}
 use Rattle.std.proofs.lemmas.Bool.Decides.{nat_tests}
 use Rattle.std.proofs.lemmas.List.{length-map, get_or-map}
 use Rattle.std.proofs.lemmas.List.Elements.{All-head, All-tail, All-weaker}
@@ -9,7 +9,7 @@ use Rattle.std.proofs.lemmas.List.FromFn.{length-range_with_len}
 use Rattle.std.proofs.lemmas.List.Sums.{count_by-le-length, length-filter}
 use Rattle.bk_ops.specs.declared.types.Target.{Target}
 use Rattle.bk_num.specs.Memory.{data_base}
-use Rattle.bk_func.specs.Records.{FuncRecord, SigRecord, PackageRecord}
+use Rattle.bk_func.specs.Records.{SigRecord, PackageRecord}
 use Rattle.bk_piece.specs.Filled.{area, filled}
 use Rattle.bk_piece.specs.Pieces.{PieceRecord}
 use Rattle.bk_piece.specs.Rising.{Rise, full, keys_in}
@@ -18,7 +18,6 @@ use Rattle.bk_piece.proofs.Rising.{rising_rises, head_of, tail_of}
 use Rattle.bk_elf.specs.Contents.{names_of}
 use Rattle.bk_elf.specs.Lists.{rises_from, is_rising}
 use Rattle.bk_elf.specs.Object.{are_codes, IsObject, IsSig}
-use Rattle.bk_elf.specs.Records.{SymbolRecord}
 use Rattle.bk_link.specs.declared.sites.Site.{Site}
 use Rattle.bk_link.specs.Addresses.{address_of}
 use Rattle.bk_link.specs.Conditions.{IsLinkable}
@@ -26,10 +25,10 @@ use Rattle.bk_link.specs.Linked.{code_size, sites_of, sigs_of, object_of, gather
 use Rattle.bk_link.specs.Sites.{text_base, is_among, symbol_of, symbols_of}
 use Rattle.bk_link.proofs.Counted.{counted, distinct, clean_names, named_below}
 use Rattle.bk_link.proofs.Filling.{size_filled, all_whole}
-use Rattle.bk_link.proofs.Numbered.{names, numbered, room}
+use Rattle.bk_link.proofs.Numbered.{numbered, room}
 use Rattle.bk_link.proofs.Placed.{placed}
 use Rattle.bk_link.proofs.Signed.{sigs_are, sig_count, piece_count}
-use Rattle.bk_link.proofs.Sizes.{IsSmall, offsets, places_small, symbol_names}
+use Rattle.bk_link.proofs.Sizes.{offsets, places_small, symbol_names}
 use Rattle.bk_link.proofs.Texting.{text_size}
 use Rattle.bk_link.proofs.Window.{window_size, whole_window}
 

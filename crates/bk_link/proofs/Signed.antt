@@ -1,17 +1,15 @@
 -- Signatures are spelled by the keys of types.
-use Rattle.std.proofs.Common.{◌≡◌, ◌∙◌, ◌≢◌, ap, sym, subst, refl, ℕ, zero, suc, ◌+◌, ◌<◌, ◌≤◌, List, [], ◌∷◌, length, map, take, drop, get_or, Option, Some, None, unwrap_or, arith, ⊎_elim, length-append}
+use Rattle.std.proofs.Common.{◌≡◌, ◌∙◌, ◌≢◌, ap, sym, subst, refl, ℕ, zero, suc, ◌<◌, ◌≤◌, List, [], ◌∷◌, length, map, take, drop, get_or, Some, unwrap_or, arith, ⊎_elim, length-append}
 use Rattle.std.specs.List.{All, Contains}
 use Rattle.std.specs.Option.{IsSomeAnd}
 use Rattle.std.proofs.lemmas.Bool.{cases_lt}
 use Rattle.std.proofs.lemmas.List.{length-map, get_or_past, take-map, drop-map, take-append-drop}
-use Rattle.std.proofs.lemmas.List.Elements.{All-nil, All-cons, All-head, All-tail, All-map, All-take, All-drop, All-weaker, All-contains, Contains-get_or}
+use Rattle.std.proofs.lemmas.List.Elements.{All-nil, All-cons, All-map, All-take, All-drop, All-weaker, All-contains, Contains-get_or}
 use Rattle.std.proofs.lemmas.Simd.{map-map}
 use Rattle.bk_ops.specs.Types.{code_of}
-use Rattle.bk_ops.specs.declared.types.Ty.{Ty}
 use Rattle.bk_ops.specs.declared.types.Ty.TheVariants.{Mem}
-use Rattle.bk_func.specs.Records.{SigRecord, FuncRecord}
+use Rattle.bk_func.specs.Records.{FuncRecord}
 use Rattle.bk_piece.specs.declared.Handle.{Handle}
-use Rattle.bk_piece.specs.declared.Key.{Key}
 use Rattle.bk_piece.specs.Filled.{area, filled, key_at, word_of}
 use Rattle.bk_piece.specs.Pieces.{PieceRecord}
 use Rattle.bk_piece.specs.Rising.{keys_in}

@@ -1,5 +1,5 @@
 -- The file is short enough for its offsets.
-use Rattle.std.proofs.Common.{◌≡◌, ◌∙◌, ap, sym, subst, refl, ℕ, suc, ◌+◌, ◌*◌, ◌^◌, ◌<◌, ◌≤◌, Bool, true, false, cond, ◌||◌, List, [], ◌∷◌, ◌++◌, length, map, filter, get_or, sum_by, arith, length-append}
+use Rattle.std.proofs.Common.{◌≡◌, ◌∙◌, ap, sym, refl, ℕ, ◌+◌, ◌*◌, ◌^◌, ◌<◌, ◌≤◌, Bool, true, false, cond, ◌||◌, List, [], ◌∷◌, length, map, sum_by, arith, length-append}
 use Rattle.std.specs.Prelude.{slice_index_or, sum}
 use Rattle.std.specs.List.{All, flat_map, range_with_len}
 use Rattle.std.proofs.lemmas.List.{length-map, get_or-map}
@@ -15,7 +15,7 @@ use Rattle.bk_elf.specs.Contents.{place_of_type, names_of, name_bytes, gosig_wor
 use Rattle.bk_elf.specs.Fields.{bytes_of}
 use Rattle.bk_elf.specs.Layout.{aligned, e_shoff}
 use Rattle.bk_elf.specs.Object.{name_places}
-use Rattle.bk_elf.specs.Records.{SymbolRecord, ObjectRecord}
+use Rattle.bk_elf.specs.Records.{ObjectRecord}
 use Rattle.bk_elf.specs.Tables.{class_of, ended}
 use Rattle.bk_link.specs.declared.sites.Site.{Site}
 use Rattle.bk_link.specs.Sites.{is_among, symbol_of, with_symbol, symbols_of}

@@ -1,5 +1,5 @@
 -- The addresses of keys.
-use Rattle.std.specs.Prelude.{ℕ, ◌+◌, ◌*◌, ◌-◌, ◌==◌, nat_lt, if◌then◌else◌, List, map, count_by, slice_index, Option, Some, None}
+use Rattle.std.specs.Prelude.{ℕ, ◌+◌, ◌*◌, ◌-◌, ◌==◌, nat_lt, if◌then◌else◌, List, count_by, slice_index, Option, Some, None}
 use Rattle.std.specs.List.{slice_get}
 use Rattle.bk_num.specs.Memory.{pool_base}
 use Rattle.bk_piece.specs.declared.Handle.{Handle}

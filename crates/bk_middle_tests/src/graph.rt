@@ -1,10 +1,6 @@
-ghost use Rattle.std.specs.Bool.{OnTrue};
-ghost use Rattle.bk_graph.specs.Given.{IsGiven};
-
 use bk_dump::read_package;
-use bk_form::check_form;
-use bk_func::{Func, Package, copy_func, greatest_block, greatest_value};
-use bk_graph::{Memory, clean, layout, split_critical};
+use bk_func::{Func, Package, copy_func};
+use bk_graph::{Memory, clean, is_joined, layout, split_critical};
 use bk_ops::Target;
 use std::alloc::{AllocError, Global};
 use std::test::Fail;
@@ -18,34 +14,18 @@ fn package(alloc: Global, text: &[u8]) -> Result<Package, Fail> {
     )
 }
 
-/// Whether a function of the package is in form and its numbers and its count of blocks are small.
-fn is_given(alloc: Global, package: &Package, func: &Func) -> bool
-    ensures { OnTrue result (IsGiven func.now) }
-{
-    if greatest_value(func) >= 4_000_000_000 || greatest_block(func) >= 4_000_000_000 {
-        return false;
-    }
-    if func.blocks.len() >= 100_000_000 {
-        return false;
-    }
-    match check_form(alloc, package, func, Target::Riscv64) {
-        Ok(()) => true,
-        Err(_) => false,
-    }
-}
-
-/// The layout of a function, none if it is not in form.
-fn order(alloc: Global, package: &Package, func: &Func) -> Result<Vec<u32>, Memory> {
-    if !is_given(alloc, package, func) {
+/// The layout of a function, none if its blocks are not joined.
+fn order(alloc: Global, func: &Func) -> Result<Vec<u32>, Memory> {
+    if !is_joined(alloc, func)? {
         return Ok(Vec::new(alloc));
     }
     Ok(layout(alloc, func)?)
 }
 
-/// The function with its critical edges split, as it is if it is not in form.
-fn without_critical(alloc: Global, package: &Package, func: &Func) -> Result<Func, Memory> {
+/// The function with its critical edges split, as it is if its blocks are not joined.
+fn without_critical(alloc: Global, func: &Func) -> Result<Func, Memory> {
     let mut split = copy_func(alloc, func)?;
-    if is_given(alloc, package, &split) {
+    if is_joined(alloc, &split)? {
         split_critical(alloc, &mut split)?;
     }
     Ok(split)
@@ -108,7 +88,7 @@ fn blocks_are_laid_out(rt: HostRuntime) -> Result<(), Fail> {
     for (text, expected) in cases {
         let package = package(rt.alloc(), text)?;
         let func = package.funcs.first().ok_or("no function")?;
-        let order = order(rt.alloc(), &package, func)?;
+        let order = order(rt.alloc(), func)?;
         assert_eq!(rt; order.as_slice(), expected, "{text:?}");
     }
     Ok(())
@@ -119,7 +99,7 @@ fn blocks_are_laid_out(rt: HostRuntime) -> Result<(), Fail> {
 fn critical_edges_are_split(rt: HostRuntime) -> Result<(), Fail> {
     let package = package(rt.alloc(), LOOP)?;
     let func = package.funcs.first().ok_or("no function")?;
-    let split = without_critical(rt.alloc(), &package, func)?;
+    let split = without_critical(rt.alloc(), func)?;
     let shape = shape(rt.alloc(), &split)?;
     let expected = [
         1, 2, 0, 4, 5, 0, 1, 0, 2, 0, 0, // b1
@@ -131,7 +111,7 @@ fn critical_edges_are_split(rt: HostRuntime) -> Result<(), Fail> {
         7, 0, 3, 0, 3, 0, 0, // from b3 to b3
     ];
     assert_eq!(rt; shape.as_slice(), &expected[..]);
-    let order = order(rt.alloc(), &package, &split)?;
+    let order = order(rt.alloc(), &split)?;
     assert_eq!(rt; order.as_slice(), &[1, 4, 2, 5, 3, 6, 7][..]);
     Ok(())
 }

@@ -12,8 +12,6 @@ mod emit;
 #[cfg(test)]
 mod graph;
 #[cfg(test)]
-mod link;
-#[cfg(test)]
 mod live;
 #[cfg(test)]
 mod rewrite;

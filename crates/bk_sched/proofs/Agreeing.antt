@@ -1,14 +1,13 @@
 -- That the order of a block alone is that of its function, where no value copies memory; and that phis come first.
-use Rattle.std.proofs.Common.{◌≡◌, ◌∙◌, sym, refl, ap, subst, ℕ, zero, suc, ◌<◌, ◌≤◌, ◌==◌, ◌⊎◌, inl, inr, ⊎_elim, Bool, true, false, cond, not, ◌&&◌, ◌||◌, List, [], ◌∷◌, ◌++◌, Some, arith, eq-eqb, ne_eqb}
+use Rattle.std.proofs.Common.{◌≡◌, ◌∙◌, sym, refl, ap, subst, ℕ, zero, suc, ◌+◌, ◌<◌, ◌≤◌, ◌==◌, ◌⊎◌, inl, inr, ⊎_elim, Bool, true, false, cond, not, ◌&&◌, ◌||◌, List, [], ◌∷◌, ◌++◌, Some, arith, eq-eqb, ne_eqb}
 use Rattle.std.specs.Prelude.{count_by, sum_by}
 use Rattle.std.specs.List.{Contains, slice_get}
 use Rattle.std.proofs.lemmas.Bool.{cases_eq, cases_order, false≢true}
 use Rattle.std.proofs.lemmas.List.Sums.{sum_by-cons}
 use Rattle.std.proofs.lemmas.Option.{none-some, same_Some, slice_get_within, get_or_from_slice_get}
+use Rattle.bk_ops.specs.Families.{is_phi}
 use Rattle.bk_ops.specs.declared.family.Family.{Family}
 use Rattle.bk_ops.specs.declared.family.Family.TheVariants as op
-use Rattle.bk_ops.specs.declared.family.ArmOp.TheVariants as arm
-use Rattle.bk_ops.specs.declared.family.RvOp.TheVariants as rv
 use Rattle.bk_ops.specs.declared.types.Ty.{Ty}
 use Rattle.bk_ops.specs.declared.types.Ty.TheVariants.{Mem}
 use Rattle.bk_func.proofs.Faults.{In}
@@ -24,7 +23,7 @@ use Rattle.bk_func.specs.Form.States as states
 use Rattle.bk_func.specs.Form.States.{CopiesMemory, IsState}
 use Rattle.bk_func.specs.Form.Text.{HasBlock, HasValue, IsPhi}
 use Rattle.bk_sched.specs.Order.{ComesBefore, HasOwnNumbers, Names, Precedes, StandsFor, outside, itself, copied, argument, state, checks, needed, unneeded, right, onward, is_call, are_results, is_state}
-use Rattle.bk_sched.specs.Schedule.{IsReady, Scheduled, done, next, score_by, score_of}
+use Rattle.bk_sched.specs.Schedule.{IsReady, Scheduled, done, next, rank_by, rank_of, score_by}
 use Rattle.bk_sched.proofs.Keeping.{in_scheduled}
 use Rattle.bk_sched.proofs.Lists.{contains_at, to_in, to_contains, in_either}
 use Rattle.bk_sched.proofs.Naming.{phi_names}
@@ -266,18 +265,19 @@ none_precedes : (b : BlockRecord) (u v : ValueRecord) → Precedes b u v → ¬ 
 none_precedes b _ _ (right u v c) phi = none_comes b u v c phi
 none_precedes b _ _ (onward t u v c rest) phi = none_precedes b u v rest phi
 
-score_zero : (f : Family) (gives : Bool) → score_by f gives ≡ 0 → f ≡ op.Phi
-score_zero op.Phi gives e = refl
-score_zero op.ArgWord gives e = absurd (omega (arith, e))
-score_zero op.NilCheck gives e = absurd (omega (arith, e))
-score_zero (op.Arm arm.Nil) gives e = absurd (omega (arith, e))
-score_zero (op.Rv rv.Nil) gives e = absurd (omega (arith, e))
-score_zero op.ResWord gives e = absurd (omega (arith, e))
-score_zero _ true e = absurd (omega (arith, e))
-score_zero _ false e = absurd (omega (arith, e))
+phi_is : (f : Family) → is_phi f ≡ true → f ≡ op.Phi
+phi_is op.Phi e = refl
+phi_is _ e = absurd (false≢true e)
 
-phi_score : (v : ValueRecord) → IsPhi v → score_of v ≡ 0
-phi_score v phi = ap (λ (f : Family). score_by f (is_state v)) phi
+rank_zero : (f : Family) (gives : Bool) → rank_by f gives ≡ 0 → f ≡ op.Phi
+rank_zero f gives e = go (is_phi f) refl e
+  where
+    go : (b : Bool) → is_phi f ≡ b → cond b 0 (score_by f gives + 1) ≡ 0 → f ≡ op.Phi
+    go true phi z = phi_is f phi
+    go false other z = absurd (omega (arith, z))
+
+phi_rank : (v : ValueRecord) → IsPhi v → rank_of v ≡ 0
+phi_rank v phi = ap (λ (f : Family). rank_by f (is_state v)) phi
 
 pub phis : (b : BlockRecord) (xs zs : List ValueRecord) → Scheduled b xs zs → (pre : List ValueRecord) (v : ValueRecord) (post : List ValueRecord) → zs ≡ pre ++ v ∷ post → (u : ValueRecord) → In u post → IsPhi u → IsPhi v
 phis b _ _ (done xs none) [] v post e u i phi = absurd cc
@@ -290,8 +290,8 @@ phis b _ _ (next xs ys zs w ready front back g) [] v post e u i phi =
     let q : zs ≡ post = cc in
     let inside : In u (xs ++ ys) = in_scheduled b (xs ++ ys) zs g u (subst (λ (ws : List ValueRecord). In u ws) (sym q) i) in
     let free : IsReady b (xs ++ w ∷ ys) u = λ t c before. none_precedes b t u before phi in
-    let zero_u = phi_score u phi in
+    let zero_u = phi_rank u phi in
     subst IsPhi d (⊎_elim
     (λ (j : In u xs). absurd (omega (arith, front u (to_contains u xs j) free, zero_u)))
-    (λ (j : In u ys). score_zero w.op.family (is_state w) (omega (arith, back u (to_contains u ys j) free, zero_u)))
+    (λ (j : In u ys). rank_zero w.op.family (is_state w) (omega (arith, back u (to_contains u ys j) free, zero_u)))
     (in_either u xs ys inside))

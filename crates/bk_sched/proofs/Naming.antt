@@ -9,7 +9,8 @@ use Rattle.std.proofs.lemmas.Option.{slice_get_within, none-some, same_Some}
 use Rattle.bk_ops.specs.Table.{info_of, is_op, row, entry, unknown}
 use Rattle.bk_ops.specs.declared.table.Op.{Op}
 use Rattle.bk_ops.specs.declared.family.Family.{Family}
-use Rattle.bk_ops.specs.declared.family.Family.TheVariants.{Copy, Phi, ResWord, SelectN}
+use Rattle.bk_ops.specs.declared.family.Family.TheVariants.{Copy, Phi, ResReg, ResWord, SelectN}
+use Rattle.bk_ops.specs.Families.{is_call_result}
 use Rattle.bk_func.specs.Records.{ValueRecord, BlockRecord}
 use Rattle.bk_func.specs.Form.Text.{IsPhi}
 use Rattle.bk_func.specs.Form.States.{CopiesMemory, NamesAt}
@@ -43,6 +44,17 @@ word_none : (a b : ℕ) → (row ResWord a b).info.memory ≡ false
 unfolding row entry
 word_none a b = refl
 
+register_none : (a b : ℕ) → (row ResReg a b).info.memory ≡ false
+unfolding row entry
+register_none a b = refl
+
+-- a result of a call takes no memory last
+call_result_none : (f : Family) → is_call_result f ≡ true → (a b : ℕ) → (row f a b).info.memory ≡ false
+call_result_none SelectN e a b = result_none a b
+call_result_none ResWord e a b = word_none a b
+call_result_none ResReg e a b = register_none a b
+call_result_none _ e a b = absurd (false≢true e)
+
 phi_none : (a b : ℕ) → (row Phi a b).info.memory ≡ false
 unfolding row entry
 phi_none a b = refl
@@ -50,32 +62,28 @@ phi_none a b = refl
 first_none : (v : ValueRecord) → NamesFirst v → (info_of v.op).memory ≡ false
 first_none v h = ⊎_elim
     (λ (copies : CopiesMemory v). no_memory v.op Copy copies.0 copy_none)
-    (λ rest. ⊎_elim (λ e. no_memory v.op SelectN e result_none) (λ e. no_memory v.op ResWord e word_none) rest)
+    (λ (result : is_call_result v.op.family ≡ true). no_memory v.op v.op.family refl (call_result_none v.op.family result))
     h
 
 -- where the state is named
 pub at_first : (v : ValueRecord) → NamesFirst v → (k : ℕ) → NamesAt v k → k ≡ 0
 at_first v h k at = ⊎_elim
     (λ (copies : CopiesMemory v × (k ≡ 0)). copies.1)
-    (λ rest. ⊎_elim (λ (one : (v.op.family ≡ SelectN) × (k ≡ 0)). one.1)
-    (λ more. ⊎_elim (λ (two : (v.op.family ≡ ResWord) × (k ≡ 0)). two.1)
+    (λ rest. ⊎_elim (λ (one : (is_call_result v.op.family ≡ true) × (k ≡ 0)). one.1)
     (λ (last : ((info_of v.op).memory ≡ true) × (k + 1 ≡ length v.args)). absurd (false≢true (sym (first_none v h) ∙ last.0)))
-    more)
     rest)
     at
 
 first_at : (v : ValueRecord) → NamesFirst v → NamesAt v 0
 first_at v h = ⊎_elim
     (λ copies. inl (copies, refl))
-    (λ rest. ⊎_elim (λ e. inr (inl (e, refl))) (λ e. inr (inr (inl (e, refl)))) rest)
+    (λ e. inr (inl (e, refl)))
     h
 
 at_last : (v : ValueRecord) → ¬ NamesFirst v → (k : ℕ) → NamesAt v k → ((info_of v.op).memory ≡ true) × (k + 1 ≡ length v.args)
 at_last v other k at = ⊎_elim
     (λ (copies : CopiesMemory v × (k ≡ 0)). absurd (other (inl copies.0)))
-    (λ rest. ⊎_elim (λ (one : (v.op.family ≡ SelectN) × (k ≡ 0)). absurd (other (inr (inl one.0))))
-    (λ more. ⊎_elim (λ (two : (v.op.family ≡ ResWord) × (k ≡ 0)). absurd (other (inr (inr two.0)))) (λ last. last) more)
-    rest)
+    (λ rest. ⊎_elim (λ (one : (is_call_result v.op.family ≡ true) × (k ≡ 0)). absurd (other (inr one.0))) (λ last. last) rest)
     at
 
 -- what the argument by which a state is named is
@@ -99,17 +107,15 @@ by_last v ns same other memory l (Some x) e long = λ m. (
       let end = (at_last v other k at).1 in
       let is : k ≡ l = omega (arith, end, long, ap length same) in
       sym (same_Some x m (e ∙ (ap (λ us. slice_get us l) same ∙ (ap (slice_get v.args) (sym is) ∙ g)))),
-  λ is. (l, inr (inr (inr (memory, long ∙ ap length same))), sym (e ∙ ap (λ us. slice_get us l) same) ∙ ap Some (sym is)),
+  λ is. (l, inr (inr (memory, long ∙ ap length same)), sym (e ∙ ap (λ us. slice_get us l) same) ∙ ap Some (sym is)),
 )
 
 -- a phi names nothing
 pub phi_names : (v : ValueRecord) → IsPhi v → (k : ℕ) → ¬ NamesAt v k
 phi_names v phi k at = ⊎_elim
     (λ (copies : CopiesMemory v × (k ≡ 0)). other Copy (sym phi ∙ copies.0.0) (λ e. cc))
-    (λ more. ⊎_elim (λ (one : (v.op.family ≡ SelectN) × (k ≡ 0)). other SelectN (sym phi ∙ one.0) (λ e. cc))
-    (λ more'. ⊎_elim (λ (two : (v.op.family ≡ ResWord) × (k ≡ 0)). other ResWord (sym phi ∙ two.0) (λ e. cc))
+    (λ more. ⊎_elim (λ (one : (is_call_result v.op.family ≡ true) × (k ≡ 0)). false≢true (sym (ap is_call_result phi) ∙ one.0))
     (λ (last : ((info_of v.op).memory ≡ true) × (k + 1 ≡ length v.args)). false≢true (sym (no_memory v.op Phi phi phi_none) ∙ last.0))
-    more')
     more)
     at
   where

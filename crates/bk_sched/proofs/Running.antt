@@ -6,6 +6,7 @@ use Rattle.std.specs.Option.{option_map}
 use Rattle.std.proofs.lemmas.Bool.{cases_eq, eqb-true, false≢true}
 use Rattle.std.proofs.lemmas.List.{length-append}
 use Rattle.std.proofs.lemmas.Option.{same_Some}
+use Rattle.bk_ops.specs.Families.{is_call_result}
 use Rattle.bk_ops.specs.Table.{info_of}
 use Rattle.bk_ops.specs.declared.family.Family.{Family}
 use Rattle.bk_ops.specs.declared.family.Family.TheVariants as op
@@ -95,12 +96,16 @@ acts_arg v acts = ⊎_elim
     (λ (e : origin_of v.op.family ≡ loaded). ap (λ o. memory_arg o v) e)
     acts
 
+no_result : (f : Family) → is_call_result f ≡ true → (origin_of f ≡ checked) ⊎ (origin_of f ≡ loaded) → ⊥
+no_result op.SelectN e acts = ⊎_elim (λ (h : origin_of op.SelectN ≡ checked). absurd cc) (λ (h : origin_of op.SelectN ≡ loaded). absurd cc) acts
+no_result op.ResWord e acts = ⊎_elim (λ (h : origin_of op.ResWord ≡ checked). absurd cc) (λ (h : origin_of op.ResWord ≡ loaded). absurd cc) acts
+no_result op.ResReg e acts = ⊎_elim (λ (h : origin_of op.ResReg ≡ checked). absurd cc) (λ (h : origin_of op.ResReg ≡ loaded). absurd cc) acts
+no_result _ e acts = absurd (false≢true e)
+
 acts_at : (v : ValueRecord) → Acts v → (k : ℕ) → NamesAt v k → ((info_of v.op).memory ≡ true) × (k + 1 ≡ length v.args)
 acts_at v acts k at = ⊎_elim
     (λ (c : CopiesMemory v × (k ≡ 0)). absurd (other op.Copy c.0.0 (λ e. absurd cc) (λ e. absurd cc)))
-    (λ more. ⊎_elim (λ (c : (v.op.family ≡ op.SelectN) × (k ≡ 0)). absurd (other op.SelectN c.0 (λ e. absurd cc) (λ e. absurd cc)))
-    (λ more'. ⊎_elim (λ (c : (v.op.family ≡ op.ResWord) × (k ≡ 0)). absurd (other op.ResWord c.0 (λ e. absurd cc) (λ e. absurd cc))) (λ last. last) more')
-    more)
+    (λ more. ⊎_elim (λ (c : (is_call_result v.op.family ≡ true) × (k ≡ 0)). absurd (no_result v.op.family c.0 acts)) (λ last. last) more)
     at
   where
     other : (g : Family) → v.op.family ≡ g → ¬ (origin_of g ≡ checked) → ¬ (origin_of g ≡ loaded) → ⊥
@@ -153,7 +158,7 @@ named_state : (f : FuncRecord) → NoCopies f → (b : BlockRecord) → HasBlock
 named_state f none b has v acts s e = go (memory_arg (origin_of v.op.family) v) refl e
   where
     arg : (n : ℕ) (t : Bool) → (info_of v.op).memory ≡ t → (if t then last_or None v.args else None) ≡ Some n → (k : ℕ) × NamesAt v k × (slice_get v.args k ≡ Some n)
-    arg n true m d = let r = got_last v.args n d in (r.0, inr (inr (inr (m, r.1))), r.2)
+    arg n true m d = let r = got_last v.args n d in (r.0, inr (inr (m, r.1)), r.2)
     arg n false m d = absurd cc
 
     go : (o : Option ℕ) → memory_arg (origin_of v.op.family) v ≡ o → is_at (option_map (memory_at (room f) f) o) s ≡ true → Names b v s

@@ -9,7 +9,7 @@ use Rattle.bk_func.proofs.Faults.{In}
 use Rattle.bk_func.specs.Records.{ValueRecord, BlockRecord}
 use Rattle.bk_sched.specs.Arranged.{IsOrder}
 use Rattle.bk_sched.specs.Order.{ComesBefore, Precedes, argument, checks, needed, right, state, unneeded, onward as further}
-use Rattle.bk_sched.specs.Schedule.{IsReady, IsSchedule, Scheduled, done as no_more, next as goes_on, score_of}
+use Rattle.bk_sched.specs.Schedule.{IsReady, IsSchedule, Scheduled, done as no_more, next as goes_on, rank_of}
 use Rattle.bk_sched.specs.Search.{IsEdge, Leads, Path, here, onward}
 use Rattle.bk_sched.specs.Turns.{IsFree, Turned, done, next}
 use Rattle.bk_sched.proofs.Arranging.{leads_on}
@@ -99,12 +99,12 @@ free_ready b es order ps vs at stays q u eq free w c before =
     let (t, k, edge) = leads_last es ps stays r q j (precedes_leads b es order w u before r q er eq) in
     free t (to_contains t ps k) edge
 
-score_at : (b : BlockRecord) (scores : List ℕ) → scores ≡ map score_of b.values → (p : ℕ) (v : ValueRecord) → slice_get b.values p ≡ Some v → slice_index scores p ≡ score_of v
+score_at : (b : BlockRecord) (scores : List ℕ) → scores ≡ map rank_of b.values → (p : ℕ) (v : ValueRecord) → slice_get b.values p ≡ Some v → slice_index scores p ≡ rank_of v
 score_at b scores same p v e =
-    get_or_from_slice_get scores p (score_of v) 0 (ap (λ xs. slice_get xs p) same ∙ (slice_get-map score_of b.values p ∙ ap (option_map score_of) e))
+    get_or_from_slice_get scores p (rank_of v) 0 (ap (λ xs. slice_get xs p) same ∙ (slice_get-map rank_of b.values p ∙ ap (option_map rank_of) e))
 
 -- one more turn
-turn : (b : BlockRecord) (es : List (List ℕ)) → IsOrder b es → (scores : List ℕ) → scores ≡ map score_of b.values → (xs ys zs : List ℕ) (p : ℕ) → IsFree es (xs ++ p ∷ ys) p
+turn : (b : BlockRecord) (es : List (List ℕ)) → IsOrder b es → (scores : List ℕ) → scores ≡ map rank_of b.values → (xs ys zs : List ℕ) (p : ℕ) → IsFree es (xs ++ p ∷ ys) p
     → ((q : ℕ) → Contains xs q → IsFree es (xs ++ p ∷ ys) q → slice_index scores p < slice_index scores q)
     → ((q : ℕ) → Contains ys q → IsFree es (xs ++ p ∷ ys) q → slice_index scores p ≤ slice_index scores q)
     → ((us : List ValueRecord) → At b (xs ++ ys) us → Stays es (xs ++ ys) → (ws : List ValueRecord) × Scheduled b us ws × At b zs ws)
@@ -134,20 +134,20 @@ turn b es order scores same xs ys zs p free first second more vs at stays =
     ready : IsReady b (s.us ++ s.v ∷ s.ws) s.v
     ready = free_ready b es order (xs ++ p ∷ ys) (s.us ++ s.v ∷ s.ws) all stays p s.v s.here free
 
-    before : (u : ValueRecord) → Contains s.us u → IsReady b (s.us ++ s.v ∷ s.ws) u → score_of s.v < score_of u
+    before : (u : ValueRecord) → Contains s.us u → IsReady b (s.us ++ s.v ∷ s.ws) u → rank_of s.v < rank_of u
     before u c r =
         let (q, i, eq) = place_of b xs s.us s.front u (to_in u s.us c) in
         let l = first q (to_contains q xs i) (ready_free b es order (xs ++ p ∷ ys) (s.us ++ s.v ∷ s.ws) all q u eq r) in
         omega (arith, l, score_at b scores same p s.v s.here, score_at b scores same q u eq)
 
-    behind : (u : ValueRecord) → Contains s.ws u → IsReady b (s.us ++ s.v ∷ s.ws) u → score_of s.v ≤ score_of u
+    behind : (u : ValueRecord) → Contains s.ws u → IsReady b (s.us ++ s.v ∷ s.ws) u → rank_of s.v ≤ rank_of u
     behind u c r =
         let (q, i, eq) = place_of b ys s.ws s.back u (to_in u s.ws c) in
         let l = second q (to_contains q ys i) (ready_free b es order (xs ++ p ∷ ys) (s.us ++ s.v ∷ s.ws) all q u eq r) in
         omega (arith, l, score_at b scores same p s.v s.here, score_at b scores same q u eq)
 
 -- the turns of places are those of their values
-turns : (b : BlockRecord) (es : List (List ℕ)) → IsOrder b es → (scores : List ℕ) → scores ≡ map score_of b.values → (ps order : List ℕ) → Turned scores es ps order → (vs : List ValueRecord) → At b ps vs → Stays es ps
+turns : (b : BlockRecord) (es : List (List ℕ)) → IsOrder b es → (scores : List ℕ) → scores ≡ map rank_of b.values → (ps order : List ℕ) → Turned scores es ps order → (vs : List ValueRecord) → At b ps vs → Stays es ps
     → (zs : List ValueRecord) × Scheduled b vs zs × At b order zs
 turns b es order scores same _ _ (done ps none) vs at stays =
     ([], no_more vs (λ v c ready. let (q, i, eq) = place_of b ps vs at v (to_in v vs c) in none q (to_contains q ps i) (ready_free b es order ps vs at q v eq ready)), tt)
@@ -185,17 +185,17 @@ at_low b (p ∷ ps) [] at k d l = absurd at
 at_low b (p ∷ ps) (v ∷ vs) at zero d l = slice_get_within b.values p v at.0
 at_low b (p ∷ ps) (v ∷ vs) at (suc k) d l = at_low b ps vs at.1 k d (omega (arith, l))
 
-whole_turn : (b : BlockRecord) (es : List (List ℕ)) → IsOrder b es → (scores : List ℕ) → scores ≡ map score_of b.values → (order : List ℕ) → Turned scores es (range_with_len 0 (length scores)) order
+whole_turn : (b : BlockRecord) (es : List (List ℕ)) → IsOrder b es → (scores : List ℕ) → scores ≡ map rank_of b.values → (order : List ℕ) → Turned scores es (range_with_len 0 (length scores)) order
     → (zs : List ValueRecord) × Scheduled b b.values zs × At b order zs
 whole_turn b es is scores same order turned =
-    let size : length scores ≡ length b.values = ap length same ∙ length-map b.values score_of in
+    let size : length scores ≡ length b.values = ap length same ∙ length-map b.values rank_of in
     turns b es is scores same (range_with_len 0 (length b.values)) order (subst (λ (n : ℕ). Turned scores es (range_with_len 0 n) order) size turned) b.values (all_places b [] b.values 0 refl refl)
     (λ p q i edge. range_all 0 (length b.values) q (omega arith) (let l = is.within p q edge in omega (arith, l)))
 
-pub low_turn : (b : BlockRecord) (es : List (List ℕ)) → IsOrder b es → (scores : List ℕ) → scores ≡ map score_of b.values → (order : List ℕ) → Turned scores es (range_with_len 0 (length scores)) order
+pub low_turn : (b : BlockRecord) (es : List (List ℕ)) → IsOrder b es → (scores : List ℕ) → scores ≡ map rank_of b.values → (order : List ℕ) → Turned scores es (range_with_len 0 (length scores)) order
     → (k d : ℕ) → k < length order → get_or order k d < length b.values
 low_turn b es is scores same order turned = let (zs, s, at) = whole_turn b es is scores same order turned in at_low b order zs at
 
-pub schedule_is : (b : BlockRecord) (es : List (List ℕ)) → IsOrder b es → (scores : List ℕ) → scores ≡ map score_of b.values → (order : List ℕ) → Turned scores es (range_with_len 0 (length scores)) order
+pub schedule_is : (b : BlockRecord) (es : List (List ℕ)) → IsOrder b es → (scores : List ℕ) → scores ≡ map rank_of b.values → (order : List ℕ) → Turned scores es (range_with_len 0 (length scores)) order
     → (ids : List ℕ) → ids ≡ map (λ p. slice_index (map (λ v. v.id) b.values) p) order → IsSchedule b ids
 schedule_is b es is scores same order turned ids e = let (zs, s, at) = whole_turn b es is scores same order turned in (zs, s, e ∙ ids_of b order zs at)

@@ -1,9 +1,9 @@
 -- What numbers stand for and what values name, by places of numbers.
-use Rattle.std.specs.Prelude.{◌≡◌, ◌↔◌, ℕ, ◌<◌, ◌≤◌, ◌==◌, ◌++◌, ◌∷◌, List, [], length, position, Option, None, Some, MatchOption, slice_index_or, ◌⊎◌}
+use Rattle.std.specs.Prelude.{◌≡◌, ◌↔◌, ℕ, ◌<◌, ◌≤◌, ◌==◌, ◌++◌, ◌∷◌, List, [], length, position, true, Option, None, Some, MatchOption, slice_index_or, ◌⊎◌}
 use Rattle.std.specs.List.{Contains, slice_get}
 use Rattle.std.specs.Ordering.{nat_cmp}
 use Rattle.std.specs.BTreeMap.{get}
-use Rattle.bk_ops.specs.declared.family.Family.TheVariants.{ResWord, SelectN}
+use Rattle.bk_ops.specs.Families.{is_call_result}
 use Rattle.bk_func.specs.Records.{ValueRecord, BlockRecord}
 use Rattle.bk_func.specs.Form.States.{CopiesMemory, NamesAt}
 use Rattle.bk_sched.specs.declared.places.Places.{Places}
@@ -12,7 +12,7 @@ use Rattle.bk_sched.specs.Order.{Names, StandsFor}
 
 -- the value names a state by its first argument
 abbrev pub NamesFirst : ValueRecord → Type 0
-NamesFirst v = CopiesMemory v ⊎ (v.op.family ≡ SelectN) ⊎ (v.op.family ≡ ResWord)
+NamesFirst v = CopiesMemory v ⊎ (is_call_result v.op.family ≡ true)
 
 -- the number stands where the value names a state
 abbrev pub NamesBy : ValueRecord → ℕ → Type 0

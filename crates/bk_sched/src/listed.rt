@@ -5,15 +5,16 @@ ghost use Rattle.bk_sched.specs.Order.{HasOwnNumbers};
 ghost use Rattle.bk_sched.specs.Schedule.{IsSchedule};
 
 use crate::order::order_of;
-use crate::score::scores;
+use crate::score::ranks;
 use crate::turns::in_turn;
 use bk_func::{Block, Memory, Value};
 use std::alloc::{AllocError, Global};
 
 /// The numbers of a block's values in the order in which they are done.
 ///
-/// Phis come first. Then of the values whose order in the block is met the one with the least score is next: words of
-/// arguments, nil checks, words of results, memory values, and others; of several the first in the list.
+/// Phis come first. Then of the values whose order in the block is met the one with the least score is next: words in
+/// registers (0), words of arguments in memory (1), nil checks (2), words of results in memory (3), memory values (4), and
+/// others (5); of several the first in the list.
 pub fn schedule(alloc: Global, block: &Block) -> Result<Vec<u32>, Memory>
     requires { HasOwnNumbers block.now }
     ensures { IfOk result (λ order. IsSchedule block.now order.items) }
@@ -27,8 +28,8 @@ fn in_order(alloc: Global, block: &Block) -> Result<Vec<u32>, AllocError>
 {
     let values: &[Value] = &block.values;
     let after = order_of(alloc, block)?;
-    let scores = scores(alloc, values)?;
-    let places = in_turn(alloc, &scores, &after)?;
+    let ranks = ranks(alloc, values)?;
+    let places = in_turn(alloc, &ranks, &after)?;
     numbers_at(alloc, values, &places)
 }
 

@@ -14,7 +14,7 @@ use crate::edges::Edges;
 use crate::places::Places;
 use crate::search::Search;
 use bk_func::{Block, Value};
-use bk_ops::{Family, Ty, op_info};
+use bk_ops::{Family, Ty, is_call_result, op_info};
 use std::alloc::{AllocError, Global};
 
 /// For each value the place of the number of the state that it names.
@@ -157,8 +157,7 @@ fn names_first(value: &Value) -> bool
 {
     match value.op.family {
         Family::Copy => value.ty == Ty::Mem,
-        Family::SelectN | Family::ResWord => true,
-        _ => false,
+        family => is_call_result(family),
     }
 }
 

@@ -16,7 +16,7 @@ use crate::places::Places;
 use crate::score::is_state;
 use crate::search::Search;
 use bk_func::{Block, Value};
-use bk_ops::{ArmOp, Family, RvOp, Ty};
+use bk_ops::{ArmOp, Family, RvOp, Ty, is_word_result};
 use std::alloc::{AllocError, Global};
 
 /// What a value does with the state that it names.
@@ -238,9 +238,8 @@ fn is_result(value: &Value) -> bool
     ensures { IsTrue result ↔ IsResult value.now }
 {
     match value.op.family {
-        Family::ResWord => true,
         Family::SelectN => value.ty != Ty::Mem,
-        _ => false,
+        family => is_word_result(family),
     }
 }
 

@@ -1,28 +1,38 @@
-// The scores of values: of those that are ready the one with the least is next.
+// The ranks of values: of those that are ready the one with the least is next.
 ghost use Rattle.std.specs.Prelude.{◌≡◌, IfOk, map};
 ghost use Rattle.bk_sched.specs.Order.{is_state as meant_state};
-ghost use Rattle.bk_sched.specs.Schedule.{score_of};
+ghost use Rattle.bk_sched.specs.Schedule.{rank_of, score_by};
 
 use bk_func::Value;
-use bk_ops::{ArmOp, Family, RvOp, Ty};
+use bk_ops::{ArmOp, Family, RvOp, Ty, is_phi};
 use std::alloc::{AllocError, Global};
 
-/// The score of each value.
-pub(crate) fn scores(alloc: Global, values: &[Value]) -> Result<Vec<u32>, AllocError>
-    ensures { IfOk result (λ scores. scores.items ≡ map score_of values.now) }
+/// The rank of each value.
+pub(crate) fn ranks(alloc: Global, values: &[Value]) -> Result<Vec<u32>, AllocError>
+    ensures { IfOk result (λ ranks. ranks.items ≡ map rank_of values.now) }
 {
-    let mut scores = Vec::with_capacity(alloc, values.len())?;
+    let mut ranks = Vec::with_capacity(alloc, values.len())?;
     for value in values {
-        scores.push(score(value))?;
+        ranks.push(rank(value))?;
     }
-    Ok(scores)
+    Ok(ranks)
 }
 
-fn score(value: &Value) -> u32
-    ensures { result ≡ score_of value.now }
+/// Phis come before all, then the least score.
+fn rank(value: &Value) -> u32
+    ensures { result ≡ rank_of value.now }
+{
+    if is_phi(value.op.family) {
+        return 0;
+    }
+    u32::from(score(value)) + 1
+}
+
+fn score(value: &Value) -> u8
+    ensures { result ≡ score_by value.now.op.family (meant_state value.now) }
 {
     match value.op.family {
-        Family::Phi => 0,
+        Family::ArgReg | Family::ResReg => 0,
         Family::ArgWord => 1,
         Family::NilCheck | Family::Arm(ArmOp::Nil) | Family::Rv(RvOp::Nil) => 2,
         Family::ResWord => 3,

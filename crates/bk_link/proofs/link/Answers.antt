@@ -1,4 +1,4 @@
-use Rattle.std.proofs.Common.{◌≡◌, ◌∙◌, ◌≤◌, ◌<◌, ◌^◌, ℕ, List, map, Vec, Global, Err, sym, ap, subst, arith}
+use Rattle.std.proofs.Common.{◌≡◌, ◌∙◌, ◌≤◌, ℕ, map, Vec, Global, Err, sym, ap, subst, arith}
 use Rattle.bk_elf.specs.Object.{IsObject}
 use Rattle.bk_piece.specs.Filled.{area}
 use Rattle.bk_piece.specs.Rising.{keys_in}

@@ -1,4 +1,4 @@
-use Rattle.std.proofs.Common.{◌≡◌, ◌∙◌, sym, ap, length, take, arith}
+use Rattle.std.proofs.Common.{◌≡◌, ◌∙◌, sym, ap, take}
 use Rattle.std.proofs.lemmas.List.{take_all}
 use Rattle.bk_link.specs.Sites.{is_among}
 use Rattle.bk_link.proofs.Keyed.{among_keys}

@@ -1,4 +1,4 @@
-use Rattle.std.proofs.Common.{◌≡◌, ◌++◌, length, drop, map}
+use Rattle.std.proofs.Common.{◌≡◌, ◌++◌, drop, map}
 use Rattle.bk_piece.specs.Filled.{filled}
 use Rattle.bk_link.specs.Linked.{sigs_of}
 use Rattle.bk_link.specs.Conditions.{AreTyped}
