@@ -163,7 +163,11 @@ const ARITY: [(&str, &str, &str); 5] = [
         "b1 Ret v5; v1 InitMem mem; v2 Arg bool {a0}; v6 StaticLECall mem {s1} v2 v1; v5 MakeResult mem v1",
         "arity v6",
     ),
-    ("", "b1 Ret v1; v1 InitMem mem; b2 Exit v3; v3 Phi mem", "arity v3"),
+    (
+        "",
+        "b1 Ret v1; v1 InitMem mem; b2 Exit v3; v3 Phi mem",
+        "arity v3",
+    ),
 ];
 
 #[test]

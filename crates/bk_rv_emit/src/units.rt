@@ -5,9 +5,9 @@ ghost use Rattle.bk_rv_emit.specs.Units as spec;
 
 use crate::lines::{Line, put, put_open};
 use crate::words::{put_load, put_store};
-use bk_piece::{Handle, Patch};
 use bk_num::{residue, sext};
 use bk_ops::{Family, Op, RvOp};
+use bk_piece::{Handle, Patch};
 use bk_rv_isa::{BranchOp, ImmediateOp, Inst, LoadOp, RegisterOp, ShiftOp, StoreOp};
 use std::alloc::AllocError;
 
