@@ -394,9 +394,18 @@ fn growth_is_refused(rt: HostRuntime) -> Result<(), Fail> {
 #[test]
 fn frames(rt: HostRuntime) -> Result<(), Fail> {
     let alloc = rt.alloc();
-    let plain = sig(alloc, &[], &[])?;
-    let one = sig(alloc, &[], &[Ty::Int64])?;
-    let word = sig(alloc, &[], &[Ty::Int32])?;
+    let plain = Sig {
+        args: Vec::new(alloc),
+        results: Vec::new(alloc),
+    };
+    let one = Sig {
+        args: Vec::new(alloc),
+        results: vec![in alloc; Ty::Int64]?,
+    };
+    let word = Sig {
+        args: Vec::new(alloc),
+        results: vec![in alloc; Ty::Int32]?,
+    };
     let refused = Err(FrameError::Frame { need: 32_768 });
     assert_eq!(rt; frame_of(0, 0, &plain, Target::Riscv64), Ok(16));
     assert_eq!(rt; frame_of(3, 0, &one, Target::Riscv64), Ok(40));
