@@ -2,10 +2,8 @@
 use Rattle.std.proofs.Common.{◌≡◌, ℕ, zero, suc, ◌+◌, ◌*◌, ◌/◌, ◌^◌, ◌<◌, ◌≤◌, ◌==◌, Bool, true, false, ◌||◌, not, cond, is_none, List, [], ◌∷◌, ◌++◌, length, map, take, drop, count_by, slice_index, zero-add, Option, None, Some, refl, sym, ap, ◌∙◌, arith}
 use Rattle.std.proofs.lemmas.List.{take_at, drop_at, take-append-drop, length-drop, get_or-drop, get_or-take}
 use Rattle.std.proofs.lemmas.Bool.{and_parts, eqb-true}
-use Rattle.std.proofs.Math.Nat.{mod-eq_of_lt, mod-lt}
 use Rattle.std.specs.List.{AllByRecursion, list_all, flat_map}
 use Rattle.std.proofs.lemmas.List.Sums.{sum_by-cons}
-use Rattle.byteorder.specs.Endian.{little_number}
 use Rattle.byteorder.specs.Numbers.{little_from-lt}
 use Rattle.bk_ops.specs.declared.types.Target.{Target}
 use Rattle.bk_ops.specs.declared.types.Target.TheVariants.{Arm, Riscv64}
@@ -17,7 +15,7 @@ use Rattle.bk_elf.specs.Fields.{field, bytes_of, number_at, extent, spelled, fir
 use Rattle.bk_elf.specs.Tables.{class_of, info_of, place_of, symbol_entry}
 use Rattle.bk_elf.specs.Lists.{is_zero, each}
 use Rattle.bk_elf.specs.Contents.{names_of, entry_bytes}
-use Rattle.bk_elf.specs.Object.{name_places}
+use Rattle.bk_elf.specs.Object.{name_places, FitsAddress, narrow}
 use Rattle.bk_elf.specs.Loading.{functions_in, symbols_of, is_function, entry_at, is_code, is_entry}
 use Rattle.bk_elf.proofs.Bytes.{AreBytes, bytes-drop, length-spelled, fields_read, fields_back}
 use Rattle.bk_elf.proofs.Headers.{extent-symbol_entry, reads_field}
@@ -28,17 +26,17 @@ use Rattle.bk_elf.proofs.Fitting.{fits-symbol_entry}
 abbrev pub entry_fields : Target → Entry → List Field
 entry_fields t e = symbol_entry t e.name e.func e.address e.size
 
-abbrev pub IsSmall : Entry → Type 0
-IsSmall e = (e.name < 2 ^ 32) × (e.address < 2 ^ 32) × (e.size < 2 ^ 32)
+abbrev pub IsSmall : Target → Entry → Type 0
+IsSmall t e = (e.name < 2 ^ 32) × FitsAddress t e.address × FitsAddress t e.size
 
 function_is : (func : Bool) → (info_of func == 18) ≡ func
 function_is true = refl
 function_is false = refl
 
 -- what is read where no field of a symbol is at fault
-entry_reads : (t : Target) (xs : List ℕ) (e : Entry) → IsSmall e → first_fault xs 0 (entry_fields t e) ≡ None → entry_at t xs ≡ e
+entry_reads : (t : Target) (xs : List ℕ) (e : Entry) → first_fault xs 0 (entry_fields t e) ≡ None → entry_at t xs ≡ e
 unfolding symbol_entry entry_at
-entry_reads Arm xs e small none =
+entry_reads Arm xs e none =
     let f = field Word e.name in
     let g = field Word e.address in
     let h = field Word e.size in
@@ -46,8 +44,8 @@ entry_reads Arm xs e small none =
     let address : number_at xs 4 4 ≡ e.address = reads_field xs 0 (f ∷ []) g _ none in
     let size : number_at xs 8 4 ≡ e.size = reads_field xs 0 (f ∷ g ∷ []) h _ none in
     let info : number_at xs 12 1 ≡ info_of e.func = reads_field xs 0 (f ∷ g ∷ h ∷ []) (field Byte (info_of e.func)) _ none in
-    rw (name, address, size, info, function_is e.func, mod-eq_of_lt small.1, mod-eq_of_lt small.2) refl
-entry_reads Riscv64 xs e small none =
+    rw (name, address, size, info, function_is e.func) refl
+entry_reads Riscv64 xs e none =
     let f = field Word e.name in
     let i = field Byte (info_of e.func) in
     let o = field Byte 0 in
@@ -58,16 +56,16 @@ entry_reads Riscv64 xs e small none =
     let info : number_at xs 4 1 ≡ info_of e.func = reads_field xs 0 (f ∷ []) i _ none in
     let address : number_at xs 8 8 ≡ e.address = reads_field xs 0 (f ∷ i ∷ o ∷ p ∷ []) g _ none in
     let size : number_at xs 16 8 ≡ e.size = reads_field xs 0 (f ∷ i ∷ o ∷ p ∷ g ∷ []) h _ none in
-    rw (name, address, size, info, function_is e.func, mod-eq_of_lt small.1, mod-eq_of_lt small.2) refl
+    rw (name, address, size, info, function_is e.func) refl
 
-no_fault : (t : Target) (e : Entry) (rest : List ℕ) → IsSmall e → first_fault (spelled (entry_fields t e) ++ rest) 0 (entry_fields t e) ≡ None
+no_fault : (t : Target) (e : Entry) (rest : List ℕ) → IsSmall t e → first_fault (spelled (entry_fields t e) ++ rest) 0 (entry_fields t e) ≡ None
 no_fault t e rest small =
     fields_read (spelled (entry_fields t e) ++ rest) 0 (entry_fields t e) (fits-symbol_entry t e.name e.func e.address e.size small.0 small.1 small.2)
     (take_at (spelled (entry_fields t e)) rest (extent (entry_fields t e)) (length-spelled (entry_fields t e)))
 
 -- a symbol is read back from its bytes
-entry_forth : (t : Target) (e : Entry) (rest : List ℕ) → IsSmall e → entry_at t (spelled (entry_fields t e) ++ rest) ≡ e
-entry_forth t e rest small = entry_reads t (spelled (entry_fields t e) ++ rest) e small (no_fault t e rest small)
+entry_forth : (t : Target) (e : Entry) (rest : List ℕ) → IsSmall t e → entry_at t (spelled (entry_fields t e) ++ rest) ≡ e
+entry_forth t e rest small = entry_reads t (spelled (entry_fields t e) ++ rest) e (no_fault t e rest small)
 
 -- a function's address is that of code
 abbrev pub CodeIf : ℕ → Entry → Type 0
@@ -77,7 +75,7 @@ where_true : (a b : Bool) → (a ≡ true → b ≡ true) → (not a || b) ≡ t
 where_true true b h = h refl
 where_true false b h = refl
 
-is_entry_forth : (t : Target) (size : ℕ) (e : Entry) (rest : List ℕ) → IsSmall e → CodeIf size e → is_entry t size (spelled (entry_fields t e) ++ rest) ≡ true
+is_entry_forth : (t : Target) (size : ℕ) (e : Entry) (rest : List ℕ) → IsSmall t e → CodeIf size e → is_entry t size (spelled (entry_fields t e) ++ rest) ≡ true
 unfolding is_entry
 is_entry_forth t size e rest small code =
     rw (entry_forth t e rest small, no_fault t e rest small) (where_true e.func (is_code size e.address) code)
@@ -89,7 +87,7 @@ length-fields t e = length-spelled (entry_fields t e) ∙ extent-symbol_entry t 
 abbrev pub spelled_entries : Target → List Entry → List ℕ
 spelled_entries t es = flat_map (λ e. spelled (entry_fields t e)) es
 
-pub entries_forth : (t : Target) (es : List Entry) → AllByRecursion IsSmall es → each (entry_at t) (class_of t).st_entsize (length es) (spelled_entries t es) ≡ es
+pub entries_forth : (t : Target) (es : List Entry) → AllByRecursion (IsSmall t) es → each (entry_at t) (class_of t).st_entsize (length es) (spelled_entries t es) ≡ es
 unfolding each
 entries_forth t [] small = refl
 entries_forth t (e ∷ es) small =
@@ -99,7 +97,7 @@ entries_forth t (e ∷ es) small =
       entries_forth t es small.1,
     ) refl
 
-pub are_entries_forth : (t : Target) (size : ℕ) (es : List Entry) → AllByRecursion IsSmall es → AllByRecursion (CodeIf size) es
+pub are_entries_forth : (t : Target) (size : ℕ) (es : List Entry) → AllByRecursion (IsSmall t) es → AllByRecursion (CodeIf size) es
     → list_all (λ b. b) (each (is_entry t size) (class_of t).st_entsize (length es) (spelled_entries t es)) ≡ true
 unfolding each
 are_entries_forth t size [] small code = refl
@@ -145,15 +143,15 @@ entries_back t size (suc n) xs h e all =
       (first.1, rest.1),
     )
 
-small_read : (t : Target) (xs : List ℕ) → AreBytes xs → IsSmall (entry_at t xs)
+small_read : (t : Target) (xs : List ℕ) → AreBytes xs → IsSmall t (entry_at t xs)
 unfolding entry_at number_at
 small_read t xs h = (
   little_from-lt 0 4 (drop 0 xs) (bytes-drop xs 0 h),
-  mod-lt (little_number (bytes_of (class_of t).address) (drop (class_of t).st_value xs)) (omega arith),
-  mod-lt (little_number (bytes_of (class_of t).address) (drop (class_of t).st_size xs)) (omega arith),
+  little_from-lt 0 (bytes_of (class_of t).address) (drop (class_of t).st_value xs) (bytes-drop xs (class_of t).st_value h),
+  little_from-lt 0 (bytes_of (class_of t).address) (drop (class_of t).st_size xs) (bytes-drop xs (class_of t).st_size h),
 )
 
-pub entries_small : (t : Target) (n : ℕ) (xs : List ℕ) → AreBytes xs → AllByRecursion IsSmall (each (entry_at t) (class_of t).st_entsize n xs)
+pub entries_small : (t : Target) (n : ℕ) (xs : List ℕ) → AreBytes xs → AllByRecursion (IsSmall t) (each (entry_at t) (class_of t).st_entsize n xs)
 unfolding each
 entries_small t zero xs h = tt
 entries_small t (suc n) xs h =
@@ -230,7 +228,18 @@ pub places_of_entries : (place : ℕ) (ss : List SymbolRecord) → map (λ e. e.
 places_of_entries place [] = refl
 places_of_entries place (s ∷ ss) = ap (λ xs. place ∷ xs) (places_of_entries (place + length s.name + 1) ss)
 
-pub symbols_of_entries : (place : ℕ) (ss : List SymbolRecord) → symbols_of (entries_of place ss) (names_of ss) ≡ ss
+-- symbols with their names, their addresses and sizes whole
+abbrev pub whole_symbols : List Entry → List (List ℕ) → List SymbolRecord
+whole_symbols [] names = []
+whole_symbols (e ∷ es) [] = []
+whole_symbols (e ∷ es) (n ∷ ns) = record { name = n; func = e.func; address = e.address; size = e.size } ∷ whole_symbols es ns
+
+pub narrow_symbols : (es : List Entry) (names : List (List ℕ)) → symbols_of es names ≡ map narrow (whole_symbols es names)
+narrow_symbols [] names = refl
+narrow_symbols (e ∷ es) [] = refl
+narrow_symbols (e ∷ es) (n ∷ ns) = ap (λ ss. narrow (record { name = n; func = e.func; address = e.address; size = e.size }) ∷ ss) (narrow_symbols es ns)
+
+pub symbols_of_entries : (place : ℕ) (ss : List SymbolRecord) → whole_symbols (entries_of place ss) (names_of ss) ≡ ss
 symbols_of_entries place [] = refl
 symbols_of_entries place (s ∷ ss) = ap (λ xs. s ∷ xs) (symbols_of_entries (place + length s.name + 1) ss)
 
@@ -242,7 +251,7 @@ functions_of_entries place (s ∷ ss) =
     ∙ ap (λ n. cond s.func 1 0 + n) rest ∙ sym (sum_by-cons (λ (x : SymbolRecord). cond x.func 1 0) s ss)
 
 -- entries whose names stand at the places of the names
-pub entries_are : (place : ℕ) (es : List Entry) (names : List (List ℕ)) → map (λ e. e.name) es ≡ name_places place names → entries_of place (symbols_of es names) ≡ es
+pub entries_are : (place : ℕ) (es : List Entry) (names : List (List ℕ)) → map (λ e. e.name) es ≡ name_places place names → entries_of place (whole_symbols es names) ≡ es
 entries_are place [] names h = refl
 entries_are place (e ∷ es) [] h = cc
 entries_are place (e ∷ es) (n ∷ ns) h =
@@ -250,7 +259,7 @@ entries_are place (e ∷ es) (n ∷ ns) h =
     let rest : map (λ x. x.name) es ≡ name_places (place + length n + 1) ns = cc in
     rw (entries_are (place + length n + 1) es ns rest, ← first) refl
 
-pub names_are : (place : ℕ) (es : List Entry) (names : List (List ℕ)) → map (λ e. e.name) es ≡ name_places place names → names_of (symbols_of es names) ≡ names
+pub names_are : (place : ℕ) (es : List Entry) (names : List (List ℕ)) → map (λ e. e.name) es ≡ name_places place names → names_of (whole_symbols es names) ≡ names
 names_are place [] [] h = refl
 names_are place [] (n ∷ ns) h = cc
 names_are place (e ∷ es) [] h = cc

@@ -5,13 +5,9 @@ use Rattle.bk_ops.specs.declared.types.Target.TheVariants.{Arm, Riscv64}
 use Rattle.bk_elf.specs.declared.tables.Row.{Row}
 use Rattle.bk_elf.specs.declared.tables.Section.{Section}
 use Rattle.bk_elf.specs.declared.tables.Section.TheVariants.{Null, Text, Pool, Data, Gosig, Symtab, Strtab, Shstrtab}
-use Rattle.bk_elf.specs.Fields.{bytes_of}
-use Rattle.bk_elf.specs.Tables.{class_of, row_of, entry_size, file_header, program_header, section_header, symbol_entry}
+use Rattle.bk_elf.specs.Tables.{row_of, entry_size, file_header, program_header, section_header, symbol_entry}
+use Rattle.bk_elf.specs.Object.{FitsAddress}
 use Rattle.bk_elf.proofs.Bytes.{FitFields}
-
--- a number fits an address
-abbrev pub FitsAddress : Target → ℕ → Type 0
-FitsAddress t n = n < 256 ^ bytes_of (class_of t).address
 
 record SmallRow (r : Row) : Type 0 where
   name : r.sh_name < 2 ^ 32
@@ -66,7 +62,7 @@ unfolding section_header
 fits-section_header Arm s offset size a b = let r = small_row s in let e = small_entry Arm s in (omega arith, (omega arith, (omega arith, (omega arith, (omega arith, (omega arith, (omega arith, (omega arith, (omega arith, (omega arith, tt))))))))))
 fits-section_header Riscv64 s offset size a b = let r = small_row s in let e = small_entry Riscv64 s in (omega arith, (omega arith, (omega arith, (omega arith, (omega arith, (omega arith, (omega arith, (omega arith, (omega arith, (omega arith, tt))))))))))
 
-pub fits-symbol_entry : (t : Target) (name : ℕ) (func : Bool) (address size : ℕ) → name < 2 ^ 32 → address < 2 ^ 32 → size < 2 ^ 32 → FitFields (symbol_entry t name func address size)
+pub fits-symbol_entry : (t : Target) (name : ℕ) (func : Bool) (address size : ℕ) → name < 2 ^ 32 → FitsAddress t address → FitsAddress t size → FitFields (symbol_entry t name func address size)
 unfolding symbol_entry
 fits-symbol_entry Arm name true address size a b d = (omega arith, (omega arith, (omega arith, (omega arith, (omega arith, (omega arith, tt))))))
 fits-symbol_entry Arm name false address size a b d = (omega arith, (omega arith, (omega arith, (omega arith, (omega arith, (omega arith, tt))))))

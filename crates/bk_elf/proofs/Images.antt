@@ -22,14 +22,15 @@ use Rattle.bk_elf.specs.Fields.{bytes_of, number_at}
 use Rattle.bk_elf.specs.Tables.{class_of}
 use Rattle.bk_elf.specs.Layout.{e_shoff}
 use Rattle.bk_elf.specs.Lists.{is_rising, is_zero, has_zero, numbers}
-use Rattle.bk_elf.specs.Object.{are_codes, IsSig, IsCode, name_places, IsObject, IsTyped}
+use Rattle.bk_elf.specs.Object.{are_codes, IsSig, IsCode, name_places, IsObject, IsTyped, IsWide, FitsAddress, narrowed}
 use Rattle.bk_elf.specs.Contents.{word_bytes, constant_bytes, gosig_words, names_of, name_bytes, entry_bytes, symbol_bytes, sizes_of}
-use Rattle.bk_elf.specs.File.{file_of}
-use Rattle.bk_elf.specs.Loading.{target_of, sizes_read, offset_of, begin_read, extent_read, content, text_read, constants_read, functions_read, gosig_in, gosig_read, signatures_read, entry_bytes_read, entries_read, places_read, names_read, each_symbol, is_code, is_entry, holds_entries, holds_symbols, holds_names, holds, are_places, are_distinct, fault_of, image_of, symbols_of, answer, loaded}
+use Rattle.bk_elf.specs.File.{file_of, IsFileOf}
+use Rattle.bk_elf.specs.Loading.{target_of, sizes_read, offset_of, begin_read, extent_read, content, text_read, constants_read, functions_read, gosig_in, gosig_read, signatures_read, entry_bytes_read, entries_read, places_read, names_read, each_symbol, is_code, is_entry, holds_entries, holds_symbols, holds_names, holds, are_places, are_distinct, fault_of, image_of, answer, loaded}
 use Rattle.bk_elf.proofs.Bytes.{AreBytes, bytes-drop, bytes-take}
 use Rattle.bk_elf.proofs.Spelling.{numbers_back, numbers_fit, length-each}
 use Rattle.bk_elf.proofs.Sigs.{gosig_back}
-use Rattle.bk_elf.proofs.Entries.{IsSmall, CodeIf, spelled_entries, entries_back, entries_small, functions_after, entries_of, bytes_of_entries, functions_of_entries, entries_are, names_are}
+use Rattle.bk_elf.proofs.Entries.{IsSmall, CodeIf, spelled_entries, entries_back, entries_small, functions_after, entries_of, bytes_of_entries, functions_of_entries, entries_are, names_are, whole_symbols}
+use Rattle.bk_elf.proofs.Whole.{whole_of, image_whole, narrow_object, narrow_typed}
 use Rattle.bk_elf.proofs.NamePlaces.{names_back, distinct_back, texts_back}
 use Rattle.bk_elf.proofs.Framing.{Contents, sizes_in, segments}
 use Rattle.bk_elf.proofs.Segments.{flat}
@@ -146,7 +147,7 @@ pub record Tabled (bytes : List ℕ) : Type 0 where
   zeros : is_zero (take (entry_bytes_read bytes) (content bytes Symtab)) ≡ true
   spelled : drop (entry_bytes_read bytes) (content bytes Symtab) ≡ spelled_entries (target_of bytes) (entries_read bytes)
   code : AllByRecursion (CodeIf (extent_read bytes Text)) (entries_read bytes)
-  small : AllByRecursion IsSmall (entries_read bytes)
+  small : AllByRecursion (IsSmall (target_of bytes)) (entries_read bytes)
   functions : functions_read bytes ≡ count_by (λ e. e.func) (entries_read bytes)
 
 pub record EntryParts (bytes : List ℕ) : Type 0 where
@@ -211,7 +212,7 @@ places_are bytes h =
 
 -- the symbols that are read
 abbrev symbols_read : List ℕ → List SymbolRecord
-symbols_read bytes = symbols_of (entries_read bytes) (names_read bytes)
+symbols_read bytes = whole_symbols (entries_read bytes) (names_read bytes)
 
 entries_same : (bytes : List ℕ) → Sound bytes → entries_of 1 (symbols_read bytes) ≡ entries_read bytes
 entries_same bytes h = entries_are 1 (entries_read bytes) (names_read bytes) (places_are bytes h)
@@ -243,20 +244,18 @@ name_parts bytes h =
 strtab_spelled : (bytes : List ℕ) → Sound bytes → name_bytes (names_of (symbols_read bytes)) ≡ content bytes Strtab
 strtab_spelled bytes h = ap name_bytes (names_same bytes h) ∙ sym (name_parts bytes (section_holds bytes h Strtab)).0
 
--- the image has the contents that are read
-contents_same : (bytes : List ℕ) → AreBytes bytes → Sound bytes → contents_of (image_of bytes) ≡ contents_read bytes
-unfolding image_of
+-- the fields have the contents that are read
+contents_same : (bytes : List ℕ) → AreBytes bytes → Sound bytes → contents_of (whole_of bytes) ≡ contents_read bytes
 contents_same bytes b h =
     let r = gosig_signed bytes b h in
     let gosig : word_bytes (gosig_words (signatures_read bytes).0 (signatures_read bytes).1) ≡ content bytes Gosig = rw r.read r.spelled in
     rw (text_spelled bytes b h, pool_spelled bytes b h, gosig, symtab_spelled bytes b h, strtab_spelled bytes h) refl
 
--- and so the file is the image's
-pub file_same : (bytes : List ℕ) → AreBytes bytes → Sound bytes → bytes ≡ file_of (image_of bytes)
-unfolding image_of
+-- and so the file is theirs
+file_same : (bytes : List ℕ) → AreBytes bytes → Sound bytes → bytes ≡ file_of (whole_of bytes)
 file_same bytes b h =
     let framed = framed_to bytes (target_of bytes) (contents_read bytes) (sound_framed bytes b h) in
-    framed ∙ sym (ap (λ (c : Contents). flat (segments (target_of bytes) c)) (contents_same bytes b h)) ∙ sym (file_is (image_of bytes))
+    framed ∙ sym (ap (λ (c : Contents). flat (segments (target_of bytes) c)) (contents_same bytes b h)) ∙ sym (file_is (whole_of bytes))
 
 code_back : (words address : ℕ) → is_code (4 * words) address ≡ true → IsCode words address
 code_back words address h =
@@ -271,13 +270,13 @@ code_symbols : (words place : ℕ) (ss : List SymbolRecord) → AllByRecursion (
 code_symbols words place [] h = tt
 code_symbols words place (s ∷ ss) h = ((λ f. code_back words s.address (h.0 f)), code_symbols words (place + length s.name + 1) ss h.1)
 
-small_symbols : (place : ℕ) (ss : List SymbolRecord) → AllByRecursion IsSmall (entries_of place ss) → AllByRecursion (λ s. (s.address < 2 ^ 32) × (s.size < 2 ^ 32)) ss
-small_symbols place [] h = tt
-small_symbols place (s ∷ ss) h = ((h.0.1, h.0.2), small_symbols (place + length s.name + 1) ss h.1)
+small_symbols : (t : Target) (place : ℕ) (ss : List SymbolRecord) → AllByRecursion (IsSmall t) (entries_of place ss) → AllByRecursion (λ s. FitsAddress t s.address × FitsAddress t s.size) ss
+small_symbols t place [] h = tt
+small_symbols t place (s ∷ ss) h = ((h.0.1, h.0.2), small_symbols t (place + length s.name + 1) ss h.1)
 
-small_places : (place : ℕ) (ss : List SymbolRecord) → AllByRecursion IsSmall (entries_of place ss) → AllByRecursion (λ n. n < 2 ^ 32) (name_places place (names_of ss))
-small_places place [] h = tt
-small_places place (s ∷ ss) h = (h.0.0, small_places (place + length s.name + 1) ss h.1)
+small_places : (t : Target) (place : ℕ) (ss : List SymbolRecord) → AllByRecursion (IsSmall t) (entries_of place ss) → AllByRecursion (λ n. n < 2 ^ 32) (name_places place (names_of ss))
+small_places t place [] h = tt
+small_places t place (s ∷ ss) h = (h.0.0, small_places t (place + length s.name + 1) ss h.1)
 
 -- the entries of the symbols that are read, again
 again : (bytes : List ℕ) → Sound bytes → (P : Entry → Type 0) → AllByRecursion P (entries_read bytes) → AllByRecursion P (entries_of 1 (symbols_read bytes))
@@ -301,10 +300,9 @@ offset_small bytes b =
     little_from-lt 0 (bytes_of (class_of (target_of bytes)).address) (drop (class_of (target_of bytes)).e_shoff bytes) (bytes-drop bytes (class_of (target_of bytes)).e_shoff b)
 
 -- what is read is an object
-image_object : (bytes : List ℕ) → AreBytes bytes → Sound bytes → IsObject (image_of bytes)
-unfolding image_of
-image_object bytes b h =
-    let o = image_of bytes in
+whole_object : (bytes : List ℕ) → AreBytes bytes → Sound bytes → IsObject (whole_of bytes)
+whole_object bytes b h =
+    let o = whole_of bytes in
     let t = target_of bytes in
     let ss = symbols_read bytes in
     let r = gosig_signed bytes b h in
@@ -332,7 +330,7 @@ image_object bytes b h =
       named = rw names (All-from_recursion (λ n. Contains n 0 → ⊥) (names_read bytes) texts.0);
       distinct = rw names (distinct_back (names_read bytes) (symbol_parts bytes (section_holds bytes h Symtab)).2);
       offsets = rw offset (offset_small bytes b);
-      places = All-from_recursion (λ n. n < 2 ^ 32) (name_places 1 (names_of ss)) (small_places 1 ss (again bytes h IsSmall s.small));
+      places = All-from_recursion (λ n. n < 2 ^ 32) (name_places 1 (names_of ss)) (small_places t 1 ss (again bytes h (IsSmall t) s.small));
     }
 
 all_bytes : (xs : List ℕ) → AreBytes xs → All (λ n. n < 2 ^ 8) xs
@@ -346,9 +344,9 @@ bytes_all xs h i = elim (cases_lt i (length xs)) [
   | inr past ↦ rw (get_or_past xs i 0 past) (omega arith)
 ]
 
-image_typed : (bytes : List ℕ) → AreBytes bytes → Sound bytes → IsTyped (image_of bytes)
-unfolding image_of
-image_typed bytes b h =
+whole_wide : (bytes : List ℕ) → AreBytes bytes → Sound bytes → IsWide (whole_of bytes)
+whole_wide bytes b h =
+    let t = target_of bytes in
     let ss = symbols_read bytes in
     let s = tabled bytes b h in
     let texts = texts_back (names_read bytes) (name_parts bytes (section_holds bytes h Strtab)).1 in
@@ -356,7 +354,7 @@ image_typed bytes b h =
       text = All-from_recursion (λ n. n < 2 ^ 32) (text_read bytes) (numbers_fit 4 (extent_read bytes Text / 4) (content bytes Text) (content_are bytes b Text));
       pool = All-from_recursion (λ n. n < 2 ^ 64) (constants_read bytes) (numbers_fit 8 (extent_read bytes Pool / 8) (content bytes Pool) (content_are bytes b Pool));
       window = all_bytes (content bytes Data) (content_are bytes b Data);
-      symbols = All-from_recursion (λ x. (x.address < 2 ^ 32) × (x.size < 2 ^ 32)) ss (small_symbols 1 ss (again bytes h IsSmall s.small));
+      symbols = All-from_recursion (λ x. FitsAddress t x.address × FitsAddress t x.size) ss (small_symbols t 1 ss (again bytes h (IsSmall t) s.small));
       names = rw (names_same bytes h) (All-from_recursion IsUtf8 (names_read bytes) texts.1);
     }
 
@@ -364,11 +362,16 @@ answered : (f : Option LoadError) (image o : ObjectRecord) → answer f image �
 answered None image o h = (refl, cc)
 answered (Some e) image o h = cc
 
--- a file that is loaded is the file of the object that it is loaded as
-pub loaded_is : (bytes : List ℕ) (o : ObjectRecord) → All (λ b. b < 2 ^ 8) bytes → loaded bytes ≡ Ok o → IsObject o × IsTyped o × (bytes ≡ file_of o)
+-- a file that is loaded is the file of an object that it is loaded as, addresses and sizes of symbols modulo 2 ^ 32
+pub loaded_is : (bytes : List ℕ) (o : ObjectRecord) → All (λ b. b < 2 ^ 8) bytes → loaded bytes ≡ Ok o → IsObject o × IsTyped o × IsFileOf bytes o
 loaded_is bytes o all h =
     let b = bytes_all bytes all in
     let parts = answered (fault_of bytes) (image_of bytes) o h in
     let sound = sound_from bytes parts.0 in
-    let P : ObjectRecord → Type 0 = λ x. IsObject x × IsTyped x × (bytes ≡ file_of x) in
-    subst P parts.1 (image_object bytes b sound, image_typed bytes b sound, file_same bytes b sound)
+    let object = whole_object bytes b sound in
+    let wide = whole_wide bytes b sound in
+    let same : o ≡ narrowed (whole_of bytes) = sym parts.1 ∙ image_whole bytes in (
+      subst IsObject (sym same) (narrow_object (whole_of bytes) object),
+      subst IsTyped (sym same) (narrow_typed (whole_of bytes) wide),
+      record { whole = whole_of bytes; object = object; wide = wide; file = file_same bytes b sound; same = same },
+    )

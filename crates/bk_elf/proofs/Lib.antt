@@ -20,5 +20,6 @@ pub mod Spelling
 pub mod Standing
 pub mod Steps
 pub mod Tabling
+pub mod Whole
 pub mod Writing
 pub mod Written

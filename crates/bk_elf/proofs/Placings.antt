@@ -8,7 +8,7 @@ use Rattle.bk_elf.specs.declared.tables.Section.TheVariants.{Null, Text, Pool, D
 use Rattle.bk_elf.specs.Layout.{aligned, size_of, e_shoff, shstrtab_begin}
 use Rattle.bk_elf.specs.Lists.{is_zero}
 use Rattle.bk_elf.specs.Loading.{content, is_loaded, has_header, has_program_header, is_described, is_placed, holds}
-use Rattle.bk_elf.proofs.Fitting.{FitsAddress}
+use Rattle.bk_elf.specs.Object.{FitsAddress}
 use Rattle.bk_elf.proofs.Framing.{Contents, sizes_in}
 use Rattle.bk_elf.proofs.Standing.{Framed, held_in, begin_of, before_of}
 use Rattle.bk_elf.proofs.Readings.{section_below, target_read, offset_is_read, sizes_are_read, section_sound, program_sound}

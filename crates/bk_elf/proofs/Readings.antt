@@ -15,7 +15,8 @@ use Rattle.bk_elf.specs.Layout.{aligned, size_of, layout_of, begin_in, e_shoff, 
 use Rattle.bk_elf.specs.Loading.{target_of, offset_of, fitting_offset, header_fault, size_read, sizes_read, is_loaded}
 use Rattle.bk_elf.proofs.Bytes.{length-spelled, fields_read}
 use Rattle.bk_elf.proofs.Headers.{reads_field, offset_read}
-use Rattle.bk_elf.proofs.Fitting.{FitsAddress, fits-file_header, fits-program_header, fits-section_header}
+use Rattle.bk_elf.specs.Object.{FitsAddress}
+use Rattle.bk_elf.proofs.Fitting.{fits-file_header, fits-program_header, fits-section_header}
 use Rattle.bk_elf.proofs.Segments.{Stands}
 use Rattle.bk_elf.proofs.Framing.{Contents, sizes_in, segment}
 use Rattle.bk_elf.proofs.Standing.{Framed, begin_of}

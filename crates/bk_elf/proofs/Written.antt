@@ -21,15 +21,15 @@ use Rattle.bk_elf.specs.Records.{SymbolRecord, ObjectRecord}
 use Rattle.bk_elf.specs.Tables.{class_of}
 use Rattle.bk_elf.specs.Layout.{size_of, e_shoff}
 use Rattle.bk_elf.specs.Lists.{rises_from, is_rising, is_zero, each, numbers}
-use Rattle.bk_elf.specs.Object.{are_codes, IsSig, IsCode, name_places, IsObject, IsTyped}
+use Rattle.bk_elf.specs.Object.{are_codes, IsSig, IsCode, name_places, IsObject, IsTyped, IsWide, FitsAddress, narrowed}
 use Rattle.bk_elf.specs.Contents.{place_of_code, place_of_type, sig_words, gosig_words, names_of, name_bytes, entry_bytes, symbol_bytes}
 use Rattle.bk_elf.specs.File.{file_of}
-use Rattle.bk_elf.specs.Loading.{target_of, extent_read, content, text_read, constants_read, functions_read, gosig_read, entry_bytes_read, entries_read, places_read, names_read, each_symbol, is_code, is_entry, entry_at, holds_entries, holds_symbols, holds_names, holds, is_placed, are_places, are_distinct, fault_of, image_of, loaded}
+use Rattle.bk_elf.specs.Loading.{target_of, extent_read, content, text_read, constants_read, functions_read, gosig_read, entry_bytes_read, entries_read, places_read, names_read, each_symbol, is_code, is_entry, entry_at, holds_entries, holds_symbols, holds_names, holds, is_placed, are_places, are_distinct, fault_of, loaded}
 use Rattle.bk_elf.proofs.Spelling.{FitAll, numbers_read, count_is}
 use Rattle.bk_elf.proofs.Sigs.{gosig_forth}
 use Rattle.bk_elf.proofs.Entries.{IsSmall, CodeIf, spelled_entries, entries_forth, are_entries_forth, functions_after, entries_of, bytes_of_entries, length-entries_of, places_of_entries, symbols_of_entries, functions_of_entries}
 use Rattle.bk_elf.proofs.NamePlaces.{names_read_back, are_places_forth, distinct_forth, texts_forth}
-use Rattle.bk_elf.proofs.Fitting.{FitsAddress}
+use Rattle.bk_elf.proofs.Whole.{whole_of, image_whole, wide_from, narrowed_same}
 use Rattle.bk_elf.proofs.Framing.{sizes_in}
 use Rattle.bk_elf.proofs.Framed.{contents_of, sizes_same, file_is, length-numbers, length-symbols}
 use Rattle.bk_elf.proofs.Standing.{Framed, framed_from, held_in}
@@ -77,10 +77,10 @@ gosig_fit codes sigs good h =
     let parts = and_parts (rises_from 0 codes) (list_all (λ c. nat_le c 13) codes) good in
     (few, fit_append codes (flat_map (sig_words codes) sigs) (fit_codes codes parts.1) (fit_sigs codes sigs few h))
 
-small_entries : (place : ℕ) (ss : List SymbolRecord) → AllByRecursion (λ n. n < 2 ^ 32) (name_places place (names_of ss))
-    → AllByRecursion (λ s. (s.address < 2 ^ 32) × (s.size < 2 ^ 32)) ss → AllByRecursion IsSmall (entries_of place ss)
-small_entries place [] a b = tt
-small_entries place (s ∷ ss) a b = ((a.0, b.0.0, b.0.1), small_entries (place + length s.name + 1) ss a.1 b.1)
+small_entries : (t : Target) (place : ℕ) (ss : List SymbolRecord) → AllByRecursion (λ n. n < 2 ^ 32) (name_places place (names_of ss))
+    → AllByRecursion (λ s. FitsAddress t s.address × FitsAddress t s.size) ss → AllByRecursion (IsSmall t) (entries_of place ss)
+small_entries t place [] a b = tt
+small_entries t place (s ∷ ss) a b = ((a.0, b.0.0, b.0.1), small_entries t (place + length s.name + 1) ss a.1 b.1)
 
 code_if : (words : ℕ) (address : ℕ) → IsCode words address → is_code (4 * words) address ≡ true
 code_if words address h =
@@ -101,7 +101,7 @@ record FileOf (bytes : List ℕ) (o : ObjectRecord) : Type 0 where
   framed : Framed bytes o.target (contents_of o)
   small : FitsAddress o.target (e_shoff o.target (sizes_in (contents_of o)))
   object : IsObject o
-  typed : IsTyped o
+  typed : IsWide o
 
 extent_is : (bytes : List ℕ) (o : ObjectRecord) → FileOf bytes o → (s : Section) → extent_read bytes s ≡ size_of (sizes_in (contents_of o)) s
 extent_is bytes o h s = ap (λ (z : Sizes). size_of z s) (sizes_are_read bytes o.target (contents_of o) h.framed h.small)
@@ -175,10 +175,10 @@ head_is t ss =
     rw (take_at (replicate (class_of t).st_entsize 0) (entry_bytes t 1 ss) (class_of t).st_entsize (length-replicate {A = ℕ} (class_of t).st_entsize 0))
     (zero_all (class_of t).st_entsize)
 
-entries_fit : (o : ObjectRecord) → IsObject o → IsTyped o → AllByRecursion IsSmall (entries_of 1 o.symbols)
+entries_fit : (o : ObjectRecord) → IsObject o → IsWide o → AllByRecursion (IsSmall o.target) (entries_of 1 o.symbols)
 entries_fit o h y =
-    small_entries 1 o.symbols (recursion_from_All (λ n. n < 2 ^ 32) (name_places 1 (names_of o.symbols)) h.places)
-    (recursion_from_All (λ s. (s.address < 2 ^ 32) × (s.size < 2 ^ 32)) o.symbols y.symbols)
+    small_entries o.target 1 o.symbols (recursion_from_All (λ n. n < 2 ^ 32) (name_places 1 (names_of o.symbols)) h.places)
+    (recursion_from_All (λ s. FitsAddress o.target s.address × FitsAddress o.target s.size) o.symbols y.symbols)
 
 product_above : (a n : ℕ) → 0 < a → 0 < a * (n + 1)
 product_above a n some = let m : 1 * (n + 1) ≤ a * (n + 1) = mul-le-mul_right (n + 1) some in omega arith
@@ -286,9 +286,8 @@ all_hold bytes o h Symtab = symbols_hold bytes o h
 all_hold bytes o h Strtab = names_hold bytes o h
 all_hold bytes o h Shstrtab = ended_read bytes o.target (contents_of o) h.framed h.small
 
-image_is : (bytes : List ℕ) (o : ObjectRecord) → FileOf bytes o → image_of bytes ≡ o
-unfolding image_of
-image_is bytes o h =
+whole_is : (bytes : List ℕ) (o : ObjectRecord) → FileOf bytes o → whole_of bytes ≡ o
+whole_is bytes o h =
     rw (
       target_read bytes o.target (contents_of o) h.framed h.small,
       text_is bytes o h,
@@ -318,13 +317,22 @@ no_fault bytes o h =
     let fit = all_fit bytes (λ s. and_from (is_placed bytes s) (holds bytes s) (placed bytes t c h.framed h.small s) (all_hold bytes o h s)) in
     rw (elf_read bytes t c h.framed, header_read bytes t c h.framed h.small, target, long, offset_is_read bytes t c h.framed h.small, ends, fit) refl
 
--- what is written is loaded as the same fields
+own_file : (o : ObjectRecord) → IsObject o → IsWide o → FileOf (file_of o) o
+own_file o object typed = record {
+  framed = framed_from (file_of o) o.target (contents_of o) (file_is o);
+  small = subst (λ (z : Sizes). FitsAddress o.target (e_shoff o.target z)) (sizes_same o) object.offsets;
+  object = object;
+  typed = typed;
+}
+
+-- what is written holds the same fields, and is loaded as them, addresses and sizes of symbols modulo 2 ^ 32
+pub written_holds : (o : ObjectRecord) → IsObject o → IsWide o → whole_of (file_of o) ≡ o
+written_holds o object typed = whole_is (file_of o) o (own_file o object typed)
+
+pub wide_loads : (o : ObjectRecord) → IsObject o → IsWide o → loaded (file_of o) ≡ Ok (narrowed o)
+wide_loads o object typed =
+    let image = image_whole (file_of o) ∙ ap narrowed (written_holds o object typed) in
+    rw (no_fault (file_of o) o (own_file o object typed), image) refl
+
 pub written_loads : (o : ObjectRecord) → IsObject o → IsTyped o → loaded (file_of o) ≡ Ok o
-written_loads o object typed =
-    let h : FileOf (file_of o) o = record {
-      framed = framed_from (file_of o) o.target (contents_of o) (file_is o);
-      small = subst (λ (z : Sizes). FitsAddress o.target (e_shoff o.target z)) (sizes_same o) object.offsets;
-      object = object;
-      typed = typed;
-    } in
-    rw (no_fault (file_of o) o h, image_is (file_of o) o h) refl
+written_loads o object typed = subst (λ (x : ObjectRecord). loaded (file_of o) ≡ Ok x) (narrowed_same o typed) (wide_loads o object (wide_from o typed))

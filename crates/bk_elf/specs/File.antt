@@ -1,5 +1,5 @@
 -- The file of an object.
-use Rattle.std.specs.Prelude.{ℕ, ◌-◌, List, ◌++◌, length, replicate}
+use Rattle.std.specs.Prelude.{◌≡◌, ℕ, ◌-◌, List, ◌++◌, length, replicate}
 use Rattle.std.specs.List.{flat_map}
 use Rattle.bk_ops.specs.declared.types.Target.{Target}
 use Rattle.bk_elf.specs.declared.tables.Section.{Section}
@@ -9,6 +9,7 @@ use Rattle.bk_elf.specs.Fields.{spelled}
 use Rattle.bk_elf.specs.Tables.{magic, sections, section_names, file_header, program_header, section_header}
 use Rattle.bk_elf.specs.Layout.{aligned, size_of, layout_of, begin_in, e_shoff}
 use Rattle.bk_elf.specs.Records.{ObjectRecord}
+use Rattle.bk_elf.specs.Object.{IsObject, IsWide, narrowed}
 use Rattle.bk_elf.specs.Contents.{word_bytes, constant_bytes, gosig_words, names_of, name_bytes, symbol_bytes, sizes_of}
 
 -- the bytes, with zeros up to a multiple of 8
@@ -41,3 +42,11 @@ headers_of t z = flat_map (header_bytes t z) sections
 
 unfoldable pub file_of : ObjectRecord → List ℕ
 file_of o = padded (with_tables o (with_loaded o (front_of o.target (sizes_of o)))) ++ headers_of o.target (sizes_of o)
+
+-- the file of an object, with the addresses and sizes of its symbols modulo 2 ^ 32
+pub record IsFileOf (bytes : List ℕ) (o : ObjectRecord) : Type 0 where
+  pub whole : ObjectRecord
+  pub object : IsObject whole
+  pub wide : IsWide whole
+  pub file : bytes ≡ file_of whole
+  pub same : o ≡ narrowed whole

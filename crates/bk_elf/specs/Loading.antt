@@ -164,13 +164,13 @@ gosig_in functions (count ∷ ws) =
 abbrev pub is_function : Target → List ℕ → Bool
 is_function t bytes = number_at bytes (class_of t).st_info 1 == 18
 
--- the symbol that the bytes begin with; the low 32 bits of its address and size
+-- the symbol that the bytes begin with
 unfoldable pub entry_at : Target → List ℕ → Entry
 entry_at t bytes = record {
   name = number_at bytes 0 4;
   func = is_function t bytes;
-  address = number_at bytes (class_of t).st_value (bytes_of (class_of t).address) % 2 ^ 32;
-  size = number_at bytes (class_of t).st_size (bytes_of (class_of t).address) % 2 ^ 32;
+  address = number_at bytes (class_of t).st_value (bytes_of (class_of t).address);
+  size = number_at bytes (class_of t).st_size (bytes_of (class_of t).address);
 }
 
 -- a word of a text of so many bytes stands at the address
@@ -332,8 +332,9 @@ Refuses b e = (e ≡ Memory) ⊎ ((e ≡ BadSection 5) × (b ≡ false))
 abbrev pub text_read : List ℕ → List ℕ
 text_read bytes = numbers 4 (extent_read bytes Text / 4) (content bytes Text)
 
+-- a symbol as an image holds it: its address and size modulo 2 ^ 32
 abbrev pub symbol_of : Entry → List ℕ → SymbolRecord
-symbol_of e name = record { name = name; func = e.func; address = e.address; size = e.size }
+symbol_of e name = record { name = name; func = e.func; address = e.address % 2 ^ 32; size = e.size % 2 ^ 32 }
 
 -- symbols with their names
 abbrev pub symbols_of : List Entry → List (List ℕ) → List SymbolRecord

@@ -1,8 +1,9 @@
 -- What the fields of an object are.
-use Rattle.std.specs.Prelude.{◌≡◌, ℕ, ◌+◌, ◌*◌, ◌%◌, ◌^◌, ◌<◌, ◌≤◌, Bool, true, nat_le, ◌&&◌, List, [], ◌∷◌, length, count_by, IsTrue}
+use Rattle.std.specs.Prelude.{◌≡◌, ℕ, ◌+◌, ◌*◌, ◌%◌, ◌^◌, ◌<◌, ◌≤◌, Bool, true, nat_le, ◌&&◌, List, [], ◌∷◌, length, map, count_by, IsTrue}
 use Rattle.std.specs.List.{All, list_all, IsDistinct, Contains}
 use Rattle.std.specs.Option.{IsSomeAnd}
 use Rattle.std.specs.Str.{IsUtf8, bytes_eq}
+use Rattle.bk_ops.specs.declared.types.Target.{Target}
 use Rattle.bk_ops.specs.declared.types.Ty.{Ty}
 use Rattle.bk_ops.specs.Types.{code_of}
 use Rattle.bk_func.specs.Records.{SigRecord}
@@ -10,7 +11,7 @@ use Rattle.bk_elf.specs.Fields.{bytes_of}
 use Rattle.bk_elf.specs.Tables.{class_of}
 use Rattle.bk_elf.specs.Layout.{e_shoff}
 use Rattle.bk_elf.specs.Lists.{rises_from, is_rising}
-use Rattle.bk_elf.specs.Records.{ObjectRecord}
+use Rattle.bk_elf.specs.Records.{SymbolRecord, ObjectRecord}
 use Rattle.bk_elf.specs.Contents.{names_of, sizes_of}
 
 -- the codes of the thirteen types of machine words, rising
@@ -54,6 +55,10 @@ pub record IsObject (o : ObjectRecord) : Type 0 where
   pub offsets : e_shoff o.target (sizes_of o) < 256 ^ bytes_of (class_of o.target).address
   pub places : All (λ n. n < 2 ^ 32) (name_places 1 (names_of o.symbols))
 
+-- a number fits a field of an address
+abbrev pub FitsAddress : Target → ℕ → Type 0
+FitsAddress t n = n < 256 ^ bytes_of (class_of t).address
+
 -- the numbers and the names are such as their types hold
 pub record IsTyped (o : ObjectRecord) : Type 0 where
   pub text : All (λ n. n < 2 ^ 32) o.text
@@ -61,3 +66,26 @@ pub record IsTyped (o : ObjectRecord) : Type 0 where
   pub window : All (λ n. n < 2 ^ 8) o.window
   pub symbols : All (λ s. (s.address < 2 ^ 32) × (s.size < 2 ^ 32)) o.symbols
   pub names : All IsUtf8 (names_of o.symbols)
+
+-- the same, but addresses and sizes of symbols are such as their fields hold
+pub record IsWide (o : ObjectRecord) : Type 0 where
+  pub text : All (λ n. n < 2 ^ 32) o.text
+  pub pool : All (λ n. n < 2 ^ 64) o.pool
+  pub window : All (λ n. n < 2 ^ 8) o.window
+  pub symbols : All (λ s. FitsAddress o.target s.address × FitsAddress o.target s.size) o.symbols
+  pub names : All IsUtf8 (names_of o.symbols)
+
+-- the addresses and sizes of symbols modulo 2 ^ 32
+abbrev pub narrow : SymbolRecord → SymbolRecord
+narrow s = record { name = s.name; func = s.func; address = s.address % 2 ^ 32; size = s.size % 2 ^ 32 }
+
+abbrev pub narrowed : ObjectRecord → ObjectRecord
+narrowed o = record {
+  target = o.target;
+  text = o.text;
+  pool = o.pool;
+  window = o.window;
+  types = o.types;
+  sigs = o.sigs;
+  symbols = map narrow o.symbols;
+}

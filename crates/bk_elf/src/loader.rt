@@ -3,7 +3,7 @@ ghost use Rattle.std.specs.Prelude.{◌≡◌, ◌⊎◌, ◌+◌, ◌≤◌, le
 ghost use Rattle.bk_elf.specs.declared.errors.LoadError.TheVariants.{Memory};
 ghost use Rattle.bk_elf.specs.declared.tables.Section.TheVariants.{Shstrtab};
 ghost use Rattle.bk_elf.specs.Object.{IsObject};
-ghost use Rattle.bk_elf.specs.File.{file_of};
+ghost use Rattle.bk_elf.specs.File.{IsFileOf};
 ghost use Rattle.bk_elf.specs.Loading.{content, begin_read, holds, image_of, section_fault, loaded, IsAt, IsCause};
 
 use crate::file::{File, Part};
@@ -16,12 +16,13 @@ use crate::typed::are_bytes;
 use crate::{Image, LoadError};
 use std::alloc::Global;
 
-/// The fields of the object that the file holds, where it is exactly as an object's.
+/// The fields of the object that the file holds, where it is exactly as an object's. Of a symbol's address and size, which
+/// may fill 64 bits in an object of riscv64, it gives the low 32 bits.
 pub fn load(alloc: Global, bytes: &[u8]) -> Result<Image, LoadError>
     ensures image { IfOk result (λ image. loaded bytes.now ≡ Ok image) }
     ensures refused { IfErr result (λ e. (e ≡ Memory) ⊎ (loaded bytes.now ≡ Err e)) }
     ensures object { IfOk result IsObject }
-    ensures file { IfOk result (λ image. bytes.now ≡ file_of image) }
+    ensures file { IfOk result (IsFileOf bytes.now) }
 {
     let image = image_of(alloc, bytes)?;
     are_bytes(bytes);

@@ -169,6 +169,7 @@ pub(crate) fn symbols(
     Ok(symbols)
 }
 
+/// A symbol with its name; of its address and size the low 32 bits.
 fn symbol(alloc: Global, entry: Entry, name: &[u8]) -> Result<Symbol, AllocError>
     requires { IsUtf8 name.now }
     ensures { IfOk result (λ s. s ≡ symbol_of entry name.now) }
@@ -180,7 +181,7 @@ fn symbol(alloc: Global, entry: Entry, name: &[u8]) -> Result<Symbol, AllocError
     Ok(Symbol {
         name,
         func: entry.func,
-        address: entry.address,
-        size: entry.size,
+        address: (entry.address % (1 << 32)) as u32,
+        size: (entry.size % (1 << 32)) as u32,
     })
 }

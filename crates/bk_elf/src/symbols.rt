@@ -17,24 +17,22 @@ use std::alloc::{AllocError, Global};
 pub(crate) struct Entry {
     pub(crate) name: u64,
     pub(crate) func: bool,
-    pub(crate) address: u32,
-    pub(crate) size: u32,
+    pub(crate) address: u64,
+    pub(crate) size: u64,
 }
 
-/// The symbol that the bytes begin with; the low 32 bits of its address and size.
+/// The symbol that the bytes begin with.
 #[tactic(auto, unfolding(crate::specs::Loading::entry_at))]
 fn entry_at(target: Target, bytes: &[u8]) -> Entry
     requires { (class_of target).st_entsize ≤ length bytes.now }
     ensures { result ≡ entry_at target bytes.now }
 {
     let class = class_of(target);
-    let address = number_at(bytes, class.st_value, class.address);
-    let size = number_at(bytes, class.st_size, class.address);
     Entry {
         name: number_at(bytes, 0, Width::Word),
         func: is_function(target, bytes),
-        address: (address % (1 << 32)) as u32,
-        size: (size % (1 << 32)) as u32,
+        address: number_at(bytes, class.st_value, class.address),
+        size: number_at(bytes, class.st_size, class.address),
     }
 }
 
@@ -45,15 +43,8 @@ fn is_entry(target: Target, size: u64, bytes: &[u8]) -> bool
     ensures { result ≡ is_entry target size bytes.now }
 {
     let entry = entry_at(target, bytes);
-    let address = u64::from(entry.address);
-    let fields = symbol_entry(
-        target,
-        entry.name,
-        entry.func,
-        address,
-        u64::from(entry.size),
-    );
-    first_fault(bytes, 0, &fields).is_none() && (!entry.func || is_code(size, address))
+    let fields = symbol_entry(target, entry.name, entry.func, entry.address, entry.size);
+    first_fault(bytes, 0, &fields).is_none() && (!entry.func || is_code(size, entry.address))
 }
 
 /// Whether a word of a text of `size` bytes stands at the address.

@@ -9,7 +9,9 @@ use Rattle.bk_func.specs.Records.{BlockRecord, FuncRecord}
 use Rattle.bk_form.specs.declared.numbers.Numbers.{Numbers}
 use Rattle.bk_form.specs.declared.reach.Rows.{Rows}
 use Rattle.bk_form.specs.Numbers.{NumbersOf, block_ids, block_named, sole}
+use Rattle.bk_form.specs.Dominators.{IsTree}
 use Rattle.bk_form.specs.Rows.{AreRows}
+use Rattle.bk_form.specs.Walks.{IsRow}
 use Rattle.bk_form.specs.Walks.{block_places, block_edges}
 
 -- one more number is looked at
@@ -56,10 +58,13 @@ item_in {A} {xs} {ys} same i x l e = subst (λ (zs : List A). Contains zs x) sam
 pub none_more : (n : ℕ) (old new : List (Option (List Bool))) → old ≡ replicate n None → new ≡ old ++ None ∷ [] → new ≡ replicate (n + 1) None
 none_more n old new before after = after ∙ (ap (λ us. us ++ None ∷ []) before ∙ replicate-append-replicate n 1 None)
 
-pub none_rows : (es : List (List ℕ)) (rows : Rows) (n : ℕ) → rows.rows.items ≡ replicate n None → n ≡ length es → AreRows es rows
-none_rows es rows n none same = record {
+pub none_rows : (es : List (List ℕ)) (rows : Rows) (n : ℕ) → rows.rows.items ≡ replicate n None → n ≡ length es → IsRow es (length es) rows.reached → IsTree es rows.tree
+    → AreRows es rows
+none_rows es rows n none same reached tree = record {
   size = ap length none ∙ (length-replicate n None ∙ same);
   each = λ h row e. absurd (none-some row (sym (ap (λ us. get_or us h None) none ∙ nothing h) ∙ e));
+  reached = reached;
+  tree = tree;
 }
   where
     nothing : (h : ℕ) → get_or {A = Option (List Bool)} (replicate n None) h None ≡ None

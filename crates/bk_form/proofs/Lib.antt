@@ -6,6 +6,7 @@ pub mod Carrying
 pub mod ChainNumbers
 pub mod Chained
 pub mod Copied
+pub mod Dominating
 pub mod Edges
 pub mod Extending
 pub mod Families

@@ -10,7 +10,7 @@ use Rattle.bk_func.specs.Records.{ValueRecord, BlockRecord, FuncRecord}
 use Rattle.bk_func.specs.Form.Before.{ComesBefore, argument, state, checks, needed, unneeded, Precedes, right, onward}
 use Rattle.bk_func.specs.Form.Text.{HasValue}
 use Rattle.bk_form.specs.Numbers.{value_ids, sole}
-use Rattle.bk_form.specs.Orders.{IsOrder, Leads, Rises}
+use Rattle.bk_form.specs.Orders.{IsOrder, Leads, RisesTo, Settles}
 use Rattle.bk_form.specs.Places.{node_at, nodes_of}
 use Rattle.bk_form.specs.Search.{IsEdge, Path, here, onward as farther, IsMarked, Marks, IsClosed, Grows}
 use Rattle.bk_form.proofs.Copied.{AreValues}
@@ -29,13 +29,19 @@ leads_on es p q r (t, e, w, path) (x, d, v, more) =
     let away : q ≢ length es = λ same. absurd (omega (arith, path_within es (length es) t q path)) in
     (t, e, w, path_on es (length es) t x r (farther q x path away d v) more)
 
--- where each edge rises nothing leads back
-path_rises : (es : List (List ℕ)) (rs : List ℕ) → Rises es rs → (a s p : ℕ) → Path es a s p → get_or rs s 0 ≤ get_or rs p 0
-path_rises es rs up a s _ (here within) = omega arith
-path_rises es rs up a s _ (farther t q path apart edge within) = omega (arith, path_rises es rs up a s t path, up t q edge)
+-- nothing leads back to a place with a rank
+path_settles : (es : List (List ℕ)) (rs : List ℕ) → Settles es rs → (a s p : ℕ) → Path es a s p → 0 < get_or rs p 0 → (0 < get_or rs s 0) × (get_or rs s 0 ≤ get_or rs p 0)
+path_settles es rs up a s _ (here within) ranked = (ranked, omega arith)
+path_settles es rs up a s _ (farther t q path apart edge within) ranked =
+    let (low, less) = up t q edge ranked in
+    let (first, most) = path_settles es rs up a s t path low in
+    (first, omega arith)
 
-pub none_leads : (es : List (List ℕ)) (rs : List ℕ) → Rises es rs → (p : ℕ) → ¬ Leads es p p
-none_leads es rs up p (t, e, w, path) = absurd (omega (arith, up p t e, path_rises es rs up (length es) t p path))
+pub none_leads : (es : List (List ℕ)) (rs : List ℕ) → Settles es rs → (p : ℕ) → 0 < get_or rs p 0 → ¬ Leads es p p
+none_leads es rs up p ranked (t, e, w, path) =
+    let (first, most) = path_settles es rs up (length es) t p path ranked in
+    let (low, less) = up p t e first in
+    absurd (omega arith)
 
 -- both stand in the block
 comes_second : (f : FuncRecord) (b : BlockRecord) (u v : ValueRecord) → ComesBefore f b u v → Contains b.values v
@@ -71,11 +77,11 @@ round_found f values es order n p v number place false is b has = λ round.
     let (i, eb, ep) = place_in f values b v has n p number place in
     false≢true (is.1 (precedes_leads f es order i b eb v v round p p ep ep))
 
-pub no_round : (f : FuncRecord) → AreValues f → (es : List (List ℕ)) → IsOrder f es → (rs : List ℕ) → Rises es rs → (b : BlockRecord) (v : ValueRecord) → HasValue f b v → ¬ Precedes f b v v
-no_round f values es order rs up b v (hb, hv) round =
-    let (i, eb) = at_contains f.blocks b hb in
-    let (p, ep) = node_in f i b v eb hv in
-    none_leads es rs up p (precedes_leads f es order i b eb v v round p p ep ep)
+pub no_round : (f : FuncRecord) → AreValues f → (es : List (List ℕ)) → IsOrder f es → (rs : List ℕ) → Settles es rs → (n p : ℕ) (v : ValueRecord) → n ≡ v.id → sole (value_ids f) n ≡ Some p
+    → 0 < get_or rs p 0 → (b : BlockRecord) → HasValue f b v → ¬ Precedes f b v v
+no_round f values es order rs up n p v number place ranked b has round =
+    let (i, eb, ep) = place_in f values b v has n p number place in
+    none_leads es rs up p ranked (precedes_leads f es order i b eb v v round p p ep ep)
 
 pub is_placed : (f : FuncRecord) → AreValues f → (b : BlockRecord) (v : ValueRecord) → HasValue f b v → (n : ℕ) → n ≡ v.id → sole (value_ids f) n ≡ None → ⊥
 is_placed f values b v has n number none =
@@ -134,19 +140,22 @@ begun_all es starts i ls xs p behind over s = (to, from)
         s.found k p (omega arith) (subst (λ (j : ℕ). Path es (length es) j p) (sym (get_or_default starts k 0 t b ∙ at)) path)
 
 -- ranks
-pub rises_more : (es : List (List ℕ)) (rs : List ℕ) (i : ℕ) → ((p q : ℕ) → p < i → IsEdge es p q → get_or rs p 0 < get_or rs q 0) → (low : ℕ) → low ≡ get_or rs i 0 → (places : List ℕ)
-    → places ≡ get_or es i [] → All (λ p. low < get_or rs p 0) places → (p q : ℕ) → p < i + 1 → IsEdge es p q → get_or rs p 0 < get_or rs q 0
-rises_more es rs i before low is places behind above p q l e = ⊎_elim
+pub settles_more : (es : List (List ℕ)) (rs : List ℕ) (i : ℕ) → ((p q : ℕ) → p < i → IsEdge es p q → RisesTo rs p q) → (low : ℕ) → low ≡ get_or rs i 0 → (places : List ℕ)
+    → places ≡ get_or es i [] → All (λ q. 0 < get_or rs q 0 → (0 < low × low < get_or rs q 0)) places → (p q : ℕ) → p < i + 1 → IsEdge es p q → RisesTo rs p q
+settles_more es rs i before low is places behind above p q l e = ⊎_elim
     (λ (b : p < i). before p q b e)
-    (λ (a : i ≤ p).
+    (λ (a : i ≤ p). λ ranked.
     let last : p ≡ i = omega arith in
     let edge : Contains places q = subst (λ (us : List ℕ). Contains us q) (sym behind) (subst (λ (j : ℕ). IsEdge es j q) last e) in
-    let up : low < get_or rs q 0 = All-contains (λ (p : ℕ). low < get_or rs p 0) places q above edge in
-    omega (arith, up, is, ap (λ j. get_or rs j 0) last))
+    let (first, up) = All-contains (λ (x : ℕ). 0 < get_or rs x 0 → (0 < low × low < get_or rs x 0)) places q above edge ranked in
+    (omega (arith, first, is, ap (λ j. get_or rs j 0) last), omega (arith, up, is, ap (λ j. get_or rs j 0) last)))
     (cases_lt p i)
 
-pub rises_all : (es : List (List ℕ)) (rs : List ℕ) (i : ℕ) → length es ≤ i → ((p q : ℕ) → p < i → IsEdge es p q → get_or rs p 0 < get_or rs q 0) → Rises es rs
-rises_all es rs i over before p q e = ⊎_elim
+pub settles_all : (es : List (List ℕ)) (rs : List ℕ) (i : ℕ) → length es ≤ i → ((p q : ℕ) → p < i → IsEdge es p q → RisesTo rs p q) → Settles es rs
+settles_all es rs i over before p q e = ⊎_elim
     (λ (b : p < i). before p q b e)
     (λ (a : i ≤ p). absurd (none_in q (subst (λ (us : List ℕ). Contains us q) (get_or_past es p [] (omega arith)) e)))
     (cases_lt p i)
+
+pub settles_none : (es : List (List ℕ)) (rs : List ℕ) → rs ≡ [] → Settles es rs
+settles_none es rs none p q e ranked = absurd (omega (arith, ranked, ap (λ us. get_or us q 0) none))

@@ -1,6 +1,7 @@
 pub mod Arranged
 pub mod Carried
 pub mod Chains
+pub mod Dominators
 pub mod Edges
 pub mod Finds
 pub mod Groups

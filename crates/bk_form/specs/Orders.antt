@@ -19,6 +19,9 @@ pub record IsOrder (f : FuncRecord) (es : List (List ℕ)) : Type 0 where
   pub whole : (p q i : ℕ) (b : BlockRecord) (u v : ValueRecord) → slice_get f.blocks i ≡ Some b → slice_get (nodes_of f) p ≡ Some (node_at i u)
       → slice_get (nodes_of f) q ≡ Some (node_at i v) → ComesBefore f b u v → Leads es p q
 
--- each edge leads to a place of a higher rank
-abbrev pub Rises : List (List ℕ) → List ℕ → Type 0
-Rises es ranks = (p q : ℕ) → IsEdge es p q → slice_index ranks p < slice_index ranks q
+-- an edge to a place with a rank, which is not 0, leads from one with a lower rank
+abbrev pub RisesTo : List ℕ → ℕ → ℕ → Type 0
+RisesTo ranks p q = 0 < slice_index ranks q → (0 < slice_index ranks p × slice_index ranks p < slice_index ranks q)
+
+abbrev pub Settles : List (List ℕ) → List ℕ → Type 0
+Settles es ranks = (p q : ℕ) → IsEdge es p q → RisesTo ranks p q

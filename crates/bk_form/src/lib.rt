@@ -6,7 +6,7 @@ ghost use Rattle.bk_func.specs.declared.form.Place.{Place as FormPlace};
 ghost use Rattle.bk_func.specs.Form.{IsInForm, strict};
 ghost use Rattle.bk_form.specs.declared.FormError.TheVariants.{FormFault, Memory as NoMemory};
 ghost use Rattle.bk_form.specs.Judged.{KeepsBefore, IsCause, IsRefusal};
-ghost use Rattle.bk_form.specs.Names.{IsScope, measure};
+ghost use Rattle.bk_form.specs.Names.{AreNames, IsScope, measure};
 ghost use Rattle.bk_form.specs.Roots.{AreRoots};
 ghost use Rattle.bk_form.specs.Walks.{IsFlow};
 
@@ -14,6 +14,7 @@ mod arity;
 mod carried;
 mod chains;
 mod control;
+mod dominators;
 mod flow;
 mod groups;
 mod memory;
@@ -22,6 +23,7 @@ mod names;
 mod naming;
 mod numbers;
 mod order;
+mod parents;
 mod places;
 mod reach;
 mod roots;
@@ -35,11 +37,12 @@ mod width;
 mod words;
 
 use crate::flow::Flow;
-use crate::names::{Names, Scope};
+pub use crate::names::Names;
+use crate::names::Scope;
 use crate::numbers::Numbers;
 use bk_func::{Func, Package};
 pub use bk_func::{FormKind, Place};
-use bk_ops::Target;
+use bk_ops::{Memory, Target};
 use std::alloc::{AllocError, Global};
 
 /// Why a function was not found to be in form.
@@ -48,6 +51,14 @@ pub enum FormError {
     /// The first kind that is broken, at its first place in text order.
     FormFault { kind: FormKind, place: Place },
     Memory,
+}
+
+impl From<Memory> for FormError {
+    ghost from_gives = { λ _ error. error ≡ NoMemory };
+
+    fn from(_error: Memory) -> Self {
+        FormError::Memory
+    }
 }
 
 impl From<AllocError> for FormError {
@@ -68,6 +79,22 @@ pub fn check_form(
     ensures ok { OnOk result (IsInForm pkg.now func.now target) }
     ensures fault { IfErr result (IsRefusal pkg.now func.now target) }
 {
+    let names = Names::new(alloc, pkg)?;
+    check_form_with(alloc, pkg, &names, func, target)
+}
+
+/// The same, given the package's names, which are found once for all its functions.
+pub fn check_form_with(
+    alloc: Global,
+    pkg: &Package,
+    names: &Names,
+    func: &Func,
+    target: Target,
+) -> Result<(), FormError>
+    requires { AreNames pkg.now names.now }
+    ensures ok { OnOk result (IsInForm pkg.now func.now target) }
+    ensures fault { IfErr result (IsRefusal pkg.now func.now target) }
+{
     if func.blocks.is_empty() {
         let place = Place::Block(0);
         return Err(FormError::FormFault {
@@ -75,21 +102,27 @@ pub fn check_form(
             place,
         });
     }
-    check_blocks(alloc, pkg, func, target)
+    check_blocks(alloc, pkg, names, func, target)
 }
 
 /// The kinds, of a function with blocks.
-fn check_blocks(alloc: Global, pkg: &Package, func: &Func, target: Target) -> Result<(), FormError>
+fn check_blocks(
+    alloc: Global,
+    pkg: &Package,
+    names: &Names,
+    func: &Func,
+    target: Target,
+) -> Result<(), FormError>
+    requires { AreNames pkg.now names.now }
     ensures { MatchResult result (λ _. KeepsBefore (strict pkg.now target) func.now 8) (IsCause (strict pkg.now target) func.now) }
 {
     let torn = control::first_fault(alloc, func)?;
     refuse(FormKind::Control, torn)?;
-    let names = Names::new(alloc, pkg)?;
     let numbers = Numbers::new(alloc, func)?;
     let nodes = places::nodes(alloc, &func.blocks)?;
     let scope = Scope {
         pkg,
-        names: &names,
+        names,
         func,
         numbers: &numbers,
         nodes: &nodes,

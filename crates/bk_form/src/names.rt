@@ -10,7 +10,7 @@ ghost use Rattle.bk_form.specs.Places.{value_with, first_named, callee_named};
 use crate::numbers::Numbers;
 use crate::places::Node;
 use bk_func::{Aux, Func, PANIC_DIVIDE, PANIC_SHIFT, Package, Value, Var};
-use bk_ops::{Target, Ty};
+use bk_ops::{Memory, Target, Ty};
 use std::alloc::{AllocError, Global};
 
 /// The types of a function's arguments and results.
@@ -22,7 +22,7 @@ pub(crate) struct Callee<'a> {
 
 /// What each name of a package names, the name's number being the index.
 #[derive(Drop)]
-pub(crate) struct Names {
+pub struct Names {
     /// The place of the first function with the name.
     pub(crate) funcs: Vec<Option<usize>>,
     /// Whether a variable has the name.
@@ -30,7 +30,8 @@ pub(crate) struct Names {
 }
 
 impl Names {
-    pub(crate) fn new(alloc: Global, pkg: &Package) -> Result<Names, AllocError>
+    /// What the names of this package name.
+    pub fn new(alloc: Global, pkg: &Package) -> Result<Names, Memory>
         ensures { IfOk result (λ names. AreNames pkg.now names) }
     {
         let funcs = first_funcs(alloc, pkg.names.len(), &pkg.funcs)?;

@@ -5,7 +5,7 @@ ghost use Rattle.bk_func.specs.Records.{BlockRecord, ValueRecord};
 ghost use Rattle.bk_func.specs.Form.Before.{Precedes};
 ghost use Rattle.bk_func.specs.Form.Text.{HasBlock, HasValue};
 ghost use Rattle.bk_form.specs.Finds.{Finds, FindsIn};
-ghost use Rattle.bk_form.specs.Orders.{IsOrder, Leads, Rises};
+ghost use Rattle.bk_form.specs.Orders.{IsOrder, Leads, Settles};
 ghost use Rattle.bk_form.specs.Walks.{IsFlow};
 
 use crate::Place;
@@ -24,15 +24,11 @@ pub(crate) fn first_round(
     requires order { IsOrder flow.now.scope.func.now edges.now }
     ensures { IfOk result (Finds (λ b. Unit {0}) (λ b v. ¬ Precedes flow.now.scope.func.now b v v) flow.now.scope.func.now) }
 {
-    let ranks = ranks(alloc, edges)?;
-    let is_free = rises(edges, &ranks);
-    if is_free {
-        return Ok(None);
-    }
+    let ranks = settled_ranks(alloc, edges)?;
     let func = flow.scope.func;
     let blocks: &[Block] = &func.blocks;
     for block in blocks {
-        let fault = round_in(alloc, flow, edges, block)?;
+        let fault = round_in(alloc, flow, edges, &ranks, block)?;
         if fault.is_some() {
             return Ok(fault);
         }
@@ -45,15 +41,17 @@ fn round_in(
     alloc: Global,
     flow: &Flow,
     edges: &Edges,
+    ranks: &[usize],
     block: &Block,
 ) -> Result<Option<Place>, AllocError>
     requires flow { IsFlow flow.now }
     requires order { IsOrder flow.now.scope.func.now edges.now }
+    requires ranks { Settles edges.now ranks.now }
     requires block { HasBlock flow.now.scope.func.now block.now }
     ensures { IfOk result (FindsIn (λ b. Unit {0}) (λ b v. ¬ Precedes flow.now.scope.func.now b v v) block.now) }
 {
     for value in &block.values {
-        let round = comes_round(alloc, flow, edges, value)?;
+        let round = comes_round(alloc, flow, edges, ranks, value)?;
         if round {
             return Ok(Some(Place::Value(value.id)));
         }
@@ -61,14 +59,25 @@ fn round_in(
     Ok(None)
 }
 
-/// Whether the value has to come before itself.
-fn comes_round(alloc: Global, flow: &Flow, edges: &Edges, value: &Value) -> Result<bool, AllocError>
+/// Whether the value has to come before itself. A search is made only where it has no rank.
+fn comes_round(
+    alloc: Global,
+    flow: &Flow,
+    edges: &Edges,
+    ranks: &[usize],
+    value: &Value,
+) -> Result<bool, AllocError>
     requires flow { IsFlow flow.now }
     requires order { IsOrder flow.now.scope.func.now edges.now }
+    requires ranks { Settles edges.now ranks.now }
     ensures { IfOk result (λ round. (b : BlockRecord) → HasValue flow.now.scope.func.now b value.now → MatchBool round (Precedes flow.now.scope.func.now b value.now value.now) (¬ Precedes flow.now.scope.func.now b value.now value.now)) }
 {
     let found = flow.scope.numbers.value(value.id);
     let Some(place) = found else { return Ok(false) };
+    let settled = rank(ranks, place);
+    if settled > 0 {
+        return Ok(false);
+    }
     leads_back(alloc, edges, place)
 }
 
@@ -85,9 +94,21 @@ fn leads_back(alloc: Global, edges: &Edges, place: usize) -> Result<bool, AllocE
     Ok(search.is_reached(place))
 }
 
-/// Whether each edge leads to a place of a higher rank.
-fn rises(edges: &Edges, ranks: &[usize]) -> bool
-    ensures { result ≡ true → Rises edges.now ranks.now }
+/// The ranks, or none at all.
+fn settled_ranks(alloc: Global, edges: &Edges) -> Result<Vec<usize>, AllocError>
+    ensures { IfOk result (λ ranks. Settles edges.now ranks.items) }
+{
+    let ranks = ranks(alloc, edges)?;
+    let settled = settles(edges, &ranks);
+    if settled {
+        return Ok(ranks);
+    }
+    Ok(Vec::new(alloc))
+}
+
+/// Whether each edge to a place with a rank leads from one with a lower rank.
+fn settles(edges: &Edges, ranks: &[usize]) -> bool
+    ensures { result ≡ true → Settles edges.now ranks.now }
 {
     for place in 0..edges.len() {
         let low = rank(ranks, place);
@@ -99,17 +120,25 @@ fn rises(edges: &Edges, ranks: &[usize]) -> bool
     true
 }
 
-/// Whether each of the places has a higher rank.
+/// Whether each of the places that has a rank has one above this, which is one.
 fn all_above(ranks: &[usize], low: usize, places: &[usize]) -> bool
-    ensures { result ≡ true → All (λ p. low < slice_index ranks.now p) places.now }
+    ensures { result ≡ true → All (λ p. 0 < slice_index ranks.now p → (0 < low × low < slice_index ranks.now p)) places.now }
 {
     for place in places {
         let high = rank(ranks, *place);
-        if high <= low {
+        let rises = rises(low, high);
+        if !rises {
             return false;
         }
     }
     true
+}
+
+/// Whether the high rank, if it is one, is above the low one, which is one then.
+fn rises(low: usize, high: usize) -> bool
+    ensures { result ≡ true → 0 < high → (0 < low × low < high) }
+{
+    high == 0 || (low != 0 && low < high)
 }
 
 fn rank(ranks: &[usize], place: usize) -> usize
@@ -118,8 +147,8 @@ fn rank(ranks: &[usize], place: usize) -> usize
     ranks.get(place).copied().unwrap_or(0)
 }
 
-/// The places one by one, each once all before it are gone: its step is its rank. Places that wait for each other
-/// keep the lowest rank.
+/// The places one by one, each once all before it are gone: the count of steps is its rank. Places that wait for each
+/// other, and those behind them, get none: 0.
 fn ranks(alloc: Global, edges: &Edges) -> Result<Vec<usize>, AllocError> {
     let mut waits = waits(alloc, edges)?;
     let mut ranks = vec![in alloc; 0usize; edges.len()]?;
@@ -134,7 +163,7 @@ fn ranks(alloc: Global, edges: &Edges) -> Result<Vec<usize>, AllocError> {
             break
         };
         if let Some(rank) = ranks.get_mut(place) {
-            *rank = step;
+            *rank = step.saturating_add(1);
         }
         for next in edges.behind(place) {
             release(&mut waits, &mut ready, *next)?;

@@ -6,8 +6,11 @@ pub mod Merging
 pub mod Numbered
 pub mod Objects
 pub mod Placed
+pub mod Rising
 pub mod Signed
 pub mod Sizes
 pub mod Sorting
+pub mod Tested
 pub mod Texting
+pub mod Typed
 pub mod Window

@@ -58,7 +58,7 @@ pub(crate) fn sorted_keys(alloc: Global, words: &[u64]) -> Result<Vec<u64>, Allo
 }
 
 /// The words of the cells that hold a key.
-fn full(alloc: Global, words: &[u64]) -> Result<Vec<u64>, AllocError>
+pub(crate) fn full(alloc: Global, words: &[u64]) -> Result<Vec<u64>, AllocError>
     ensures { IfOk result (λ keys. keys.items ≡ full words.now) }
 {
     let mut keys = Vec::new(alloc);

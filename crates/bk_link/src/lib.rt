@@ -11,6 +11,7 @@ ghost use Rattle.bk_link.specs.Linked.{code_size, gathered};
 
 mod cells;
 mod errors;
+mod linkable;
 mod object;
 mod sites;
 mod texts;
@@ -23,6 +24,7 @@ pub use bk_ops::Memory;
 use bk_ops::Target;
 use bk_piece::Piece;
 pub use errors::LinkError;
+pub use linkable::is_linkable;
 use std::alloc::Global;
 
 /// The bytes that text and pool may take together.
@@ -33,6 +35,7 @@ const CODE_LIMIT: u128 = 16_777_216;
 ///
 /// `pieces` holds one piece for each function. `words` are the cells of the three areas: symbols, types of signatures and
 /// constants; a cell that holds no key is 0. No two cells of an area hold one key, and the cell of each handle holds one.
+/// [`is_linkable`] tells whether these are such.
 pub fn link(
     alloc: Global,
     pkg: &Package,

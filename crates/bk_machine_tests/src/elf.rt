@@ -35,7 +35,7 @@ fn fault(alloc: Global, bytes: &[u8]) -> Option<LoadError> {
     }
 }
 
-pub fn file_of(alloc: Global, target: Target) -> Result<Vec<u8>, AllocError> {
+pub(crate) fn file_of(alloc: Global, target: Target) -> Result<Vec<u8>, AllocError> {
     let words: &[u32] = match target {
         Target::Arm => &ARM,
         Target::Riscv64 => &RISCV64,
@@ -168,6 +168,24 @@ fn damage(rt: HostRuntime) -> Result<(), Fail> {
     Ok(())
 }
 
+/// The fields of addresses and sizes have 64 bits; the low 32 of them are kept.
+#[test]
+fn wide_symbols(rt: HostRuntime) -> Result<(), Fail> {
+    let alloc = rt.alloc();
+    let mut file = file_of(alloc, Target::Riscv64)?;
+    for place in [420, 436, 447] {
+        set(&mut file, place, 1);
+    }
+    let image = load(alloc, &file)?;
+    for (symbol, (name, _, address, size)) in image.symbols.iter().zip(&SYMBOLS) {
+        assert_eq!(rt; symbol.name.as_str(), *name);
+        assert_eq!(rt; (symbol.address, symbol.size), (*address, *size));
+    }
+    set(&mut file, 412, 1);
+    assert_eq!(rt; fault(alloc, &file), fault_of(Section(5)));
+    Ok(())
+}
+
 // The files are those of a script that writes them by the description of an object, as are the faults.
 const WINDOW: [u8; 16] = [1, 2, 3, 4, 5, 6, 7, 8, 0, 0, 0, 0, 0, 0, 0, 0];
 
@@ -294,7 +312,7 @@ const DAMAGE: [(Target, usize, &[(usize, u8)], Want); 73] = [
     (Target::Riscv64, 1056, &[(456, 54)], Section(5)),
     (Target::Riscv64, 1056, &[(458, 0)], Section(5)),
     (Target::Riscv64, 1056, &[(460, 1)], Section(5)),
-    (Target::Riscv64, 1056, &[(468, 1)], Section(5)),
+    (Target::Riscv64, 1056, &[(468, 1)], Loads),
     (Target::Riscv64, 1056, &[(424, 1)], Section(5)),
     (Target::Riscv64, 1056, &[(424, 13), (448, 5)], Section(5)),
     (Target::Riscv64, 1056, &[(448, 18)], Section(5)),
@@ -348,7 +366,7 @@ const DAMAGE: [(Target, usize, &[(usize, u8)], Want); 73] = [
 ];
 
 // The lowest bit of each byte.
-const RISCV64_BYTES: [(usize, Want); 77] = [
+const RISCV64_BYTES: [(usize, Want); 72] = [
     (4, NotElf),
     (5, Header(4)),
     (6, Header(5)),
@@ -396,20 +414,15 @@ const RISCV64_BYTES: [(usize, Want); 77] = [
     (404, Section(5)),
     (405, Section(4)),
     (416, Section(5)),
-    (420, Loads),
-    (424, Section(5)),
+    (424, Loads),
     (425, Section(6)),
     (432, Section(5)),
-    (436, Loads),
-    (440, Section(5)),
-    (444, Loads),
-    (448, Section(5)),
+    (448, Loads),
     (449, Section(6)),
     (452, Section(5)),
     (453, Section(4)),
     (464, Section(5)),
-    (468, Loads),
-    (472, Section(5)),
+    (472, Loads),
     (473, Section(6)),
     (476, Loads),
     (477, Section(6)),

@@ -12,6 +12,8 @@ mod emit;
 #[cfg(test)]
 mod graph;
 #[cfg(test)]
+mod link;
+#[cfg(test)]
 mod live;
 #[cfg(test)]
 mod rewrite;

@@ -7,15 +7,18 @@ mod texts;
 
 use bk_io::{MemSink, MemSource, Memory, Open};
 use bk_top::backend;
-use objects::{ARM, RISCV};
+use objects::ARM;
 use std::alloc::{AllocError, Global};
 use std::test::Fail;
-use texts::{ADD, DROPPED, LEQ, LOOP, NO_SUCH, STORE, SWAP, TWICE, USE};
+use texts::{
+    ADD, ADD_AND_TWICE, ADD_CODE, CONSTANT, COUNTED, DROPPED, LEQ, LESS, LOOP, MOD, NO_SUCH,
+    QUOTIENT, SPIN, STORE, SWAP, TWICE, TWICE_CODE, USE, ZEROS,
+};
 
 /// The words, the input, and what they leave: the status and the texts on the output and on the error stream.
 struct Row(&'static str, &'static str, u8, &'static str, &'static str);
 
-const TEXTS: [Row; 45] = [
+const TEXTS: [Row; 66] = [
     Row("check arm", "", 0, "ok 0 functions 0 values\n", ""),
     Row("check riscv64", ADD, 0, "ok 1 functions 5 values\n", ""),
     Row(
@@ -43,8 +46,32 @@ const TEXTS: [Row; 45] = [
         "",
         "line 1: limit window\n",
     ),
-    Row("compile riscv64 1", ADD, 2, "", "words\n"),
+    Row("compile riscv64 1", "x", 3, "", "line 1: syntax\n"),
+    Row("compile riscv64 1", TWICE, 3, "", "line 4: duplicate\n"),
+    Row(
+        "compile riscv64 64",
+        USE,
+        3,
+        "",
+        "function u: form use v4\n",
+    ),
+    Row("compile riscv64 1", NO_SUCH, 3, "", "undefined nosuch\n"),
+    Row(
+        "compile riscv64 2",
+        ZEROS,
+        1,
+        "",
+        "function d: construct v3\nfunction e: construct v3\n",
+    ),
+    Row("", ADD, 2, "", "words\n"),
     Row("compile mips 1", ADD, 2, "", "words\n"),
+    Row("compile arm 1", ADD, 2, "", "words\n"),
+    Row("compile arm 0", ADD, 2, "", "words\n"),
+    Row("compile arm 65", ADD, 2, "", "words\n"),
+    Row("compile riscv64", ADD, 2, "", "words\n"),
+    Row("compile riscv64 0", ADD, 2, "", "words\n"),
+    Row("compile riscv64 65", ADD, 2, "", "words\n"),
+    Row("compile riscv64 1 a b", ADD, 2, "", "words\n"),
     Row("check", ADD, 2, "", "words\n"),
     Row("check mips", ADD, 2, "", "words\n"),
     Row("gen 0", "", 2, "", "words\n"),
@@ -142,21 +169,50 @@ const TEXTS: [Row; 45] = [
         "function\n",
     ),
     Row("eval arm q 1", NO_SUCH, 3, "", "undefined nosuch\n"),
+    Row(
+        "eval arm d 10 -2147483648 -1",
+        QUOTIENT,
+        0,
+        "returned -2147483648\n",
+        "",
+    ),
+    Row(
+        "eval riscv64 d 10 -2147483648 -1",
+        QUOTIENT,
+        0,
+        "returned -2147483648\n",
+        "",
+    ),
+    Row("eval arm d 10 7 0", QUOTIENT, 0, "returned 0\n", ""),
+    Row("eval riscv64 d 10 7 0", QUOTIENT, 0, "returned -1\n", ""),
+    Row("eval arm m 10 7 0", MOD, 0, "returned 7\n", ""),
+    Row("eval riscv64 m 10 7 0", MOD, 0, "returned 7\n", ""),
+    Row("eval arm d 10 8", ZEROS, 0, "returned 3\n", ""),
+    Row(
+        "eval riscv64 f 10",
+        ZEROS,
+        1,
+        "",
+        "function d: construct v3\nfunction e: construct v3\n",
+    ),
+    Row("eval riscv64 spin 1000", SPIN, 0, "going\n", ""),
     Row("eval mips st 10 0 9", STORE, 2, "", "words\n"),
     Row("eval arm st", STORE, 2, "", "words\n"),
     Row("rules generic", "", 2, "", "words\n"),
 ];
 
-/// Where reads and writes fail: the number of a read, and the room of the sinks.
+/// Where reads and writes fail: the number of a read of the input and of one of the rules, and the room of the sinks.
 #[derive(Clone, Copy)]
 struct Failing {
     read: u64,
+    rules: u64,
     room: usize,
     error_room: usize,
 }
 
 const NO_FAULT: Failing = Failing {
     read: u64::MAX,
+    rules: u64::MAX,
     room: 5000,
     error_room: 100,
 };
@@ -178,9 +234,20 @@ fn words_of(alloc: Global, line: &str) -> Result<Vec<String>, AllocError> {
 }
 
 fn answered(alloc: Global, line: &str, text: &[u8], faults: Failing) -> Result<Left, Memory> {
+    answered_by_rules(alloc, line, text, b"", faults)
+}
+
+/// The same with a text of extra rules.
+fn answered_by_rules(
+    alloc: Global,
+    line: &str,
+    text: &[u8],
+    rules: &[u8],
+    faults: Failing,
+) -> Result<Left, Memory> {
     let words = words_of(alloc, line)?;
     let mut input = MemSource::new(text.to_vec(alloc)?, [faults.read].to_vec(alloc)?);
-    let mut extra = MemSource::new(Vec::new(alloc), Vec::new(alloc));
+    let mut extra = MemSource::new(rules.to_vec(alloc)?, [faults.rules].to_vec(alloc)?);
     let mut out = MemSink::new(alloc, faults.room, Vec::new(alloc))?;
     let mut err = MemSink::new(alloc, faults.error_room, Vec::new(alloc))?;
     let status = backend(
@@ -227,6 +294,163 @@ fn changed(alloc: Global, bytes: &[u8], place: usize, others: &[u8]) -> Result<V
 
 /// Where the text begins in the file of an object for riscv64.
 const TEXT_PLACE: usize = 232;
+
+fn bytes_of(alloc: Global, code: &[u32]) -> Result<Vec<u8>, AllocError> {
+    let mut bytes = Vec::new(alloc);
+    for word in code {
+        bytes.extend_from_slice(&word.to_le_bytes())?;
+    }
+    Ok(bytes)
+}
+
+#[test]
+fn code(rt: HostRuntime) -> Result<(), Memory> {
+    let alloc = rt.alloc();
+    let codes: [(&str, &[u32]); 2] = [(ADD, &ADD_CODE), (ADD_AND_TWICE, &TWICE_CODE)];
+    for (text, code) in codes {
+        let left = answered(alloc, "compile riscv64 1", text.as_bytes(), NO_FAULT)?;
+        let bytes = bytes_of(alloc, code)?;
+        assert_eq!(rt; left.status, 0);
+        assert!(rt;
+            left.out
+                .bytes()
+                .get(TEXT_PLACE..)
+                .unwrap_or(&[])
+                .starts_with(&bytes)
+        );
+    }
+    for (text, len) in [(ADD, 936), ("", 832)] {
+        let left = answered(alloc, "compile riscv64 64", text.as_bytes(), NO_FAULT)?;
+        assert_eq!(rt; left.status, 0);
+        assert_eq!(rt; left.out.bytes().len(), len);
+    }
+    Ok(())
+}
+
+/// A package, a run of the object that is compiled from it, and what it tells.
+struct Compiled(&'static str, &'static str, &'static str);
+
+const COMPILED: [Compiled; 11] = [
+    Compiled(ADD_AND_TWICE, "run twice 100 21", "returned 42\n"),
+    Compiled(SWAP, "run swap 1000 3 10 20", "returned 20 10\n"),
+    Compiled(CONSTANT, "run k 100", "returned 1311768467463790320\n"),
+    Compiled(
+        QUOTIENT,
+        "run d 100 -2147483648 -1",
+        "returned -2147483648\n",
+    ),
+    Compiled(QUOTIENT, "run d 100 7 0", "returned -1\n"),
+    Compiled(MOD, "run m 100 7 0", "returned 7\n"),
+    Compiled(
+        STORE,
+        "run st 100 0 9",
+        "trapped 1 nil data 0102030405060708\n",
+    ),
+    Compiled(
+        STORE,
+        "run st 100 67108864 9",
+        "returned data 0900000005060708\n",
+    ),
+    Compiled(
+        STORE,
+        "run st 100 67108870 9",
+        "fault 67108870 data 0102030405060708\n",
+    ),
+    Compiled(SPIN, "run spin 1000", "going\n"),
+    Compiled(
+        LOOP,
+        "run main.sum 1000 67108864 3",
+        "returned 6 data 010000000000000002000000000000000300000000000000\n",
+    ),
+];
+
+#[test]
+fn compiled_runs(rt: HostRuntime) -> Result<(), Memory> {
+    let alloc = rt.alloc();
+    for Compiled(text, words, out) in &COMPILED {
+        let object = answered(alloc, "compile riscv64 1", text.as_bytes(), NO_FAULT)?;
+        let left = answered(alloc, words, object.out.bytes(), NO_FAULT)?;
+        assert_eq!(rt; left.status, 0, "{words}");
+        assert_eq!(rt; left.out.bytes(), out.as_bytes(), "{words}");
+    }
+    Ok(())
+}
+
+/// A function that calls itself until the stack is spent, which has room for 4,096 frames of 16 bytes.
+#[test]
+fn spent_stack(rt: HostRuntime) -> Result<(), Memory> {
+    let alloc = rt.alloc();
+    let out = "trapped 5 stack data 0010000000000000\n";
+    let left = answered(
+        alloc,
+        "eval riscv64 r 1000000",
+        COUNTED.as_bytes(),
+        NO_FAULT,
+    )?;
+    assert_eq!(rt; left.out.bytes(), out.as_bytes());
+    let object = answered(alloc, "compile riscv64 1", COUNTED.as_bytes(), NO_FAULT)?;
+    let left = answered(alloc, "run r 1000000", object.out.bytes(), NO_FAULT)?;
+    assert_eq!(rt; left.out.bytes(), out.as_bytes());
+    Ok(())
+}
+
+/// The text of extra rules, and the status and the line that it leads to.
+const RULES: [(&str, u8, &str); 4] = [
+    (
+        "(Less32 x y) => (Not (Leq32 y x))",
+        1,
+        "function less: passes 69\n",
+    ),
+    ("(Add32 x y) => (Foo x)", 7, "extra line 1: op\n"),
+    ("(Load p m) => p", 7, "extra line 1: op\n"),
+    ("(Add32 x", 7, "extra line 1: syntax\n"),
+];
+
+#[test]
+fn extra_rules(rt: HostRuntime) -> Result<(), Memory> {
+    for (rules, status, err) in RULES {
+        let left = answered_by_rules(
+            rt.alloc(),
+            "compile riscv64 1 rules",
+            LESS.as_bytes(),
+            rules.as_bytes(),
+            NO_FAULT,
+        )?;
+        assert_eq!(rt; left.status, status, "{rules}");
+        assert_eq!(rt; left.out.bytes().len(), 0, "{rules}");
+        assert_eq!(rt; left.err.bytes(), err.as_bytes(), "{rules}");
+    }
+    Ok(())
+}
+
+#[test]
+fn long_rules(rt: HostRuntime) -> Result<(), Memory> {
+    let alloc = rt.alloc();
+    let words = "compile riscv64 1 rules";
+    for (len, status, err) in [(65_536, 0, ""), (65_537, 7, "extra too long\n")] {
+        let rules = vec![in alloc; b' '; len]?;
+        let left = answered_by_rules(alloc, words, ADD.as_bytes(), &rules, NO_FAULT)?;
+        assert_eq!(rt; left.status, status);
+        assert_eq!(rt; left.err.bytes(), err.as_bytes());
+    }
+    Ok(())
+}
+
+/// The rules are read before the input.
+#[test]
+fn unread_rules(rt: HostRuntime) -> Result<(), Memory> {
+    let faults = Failing {
+        read: u64::MAX,
+        rules: 0,
+        room: 5000,
+        error_room: 100,
+    };
+    let left = answered_by_rules(rt.alloc(), "compile riscv64 1 rules", b"x", b"y", faults)?;
+    assert_eq!(rt; left.status, 4);
+    assert_eq!(rt; left.out.bytes().len(), 0);
+    assert_eq!(rt; left.err.bytes(), "read fault\n".as_bytes());
+    Ok(())
+}
 
 /// The words, and what they leave over the object of the sum: the status and the texts on the output and on the error stream.
 struct Run(&'static str, u8, &'static str, &'static str);
@@ -278,15 +502,15 @@ const CHANGES: [Change; 7] = [
 #[test]
 fn runs(rt: HostRuntime) -> Result<(), Memory> {
     let alloc = rt.alloc();
-    let add = bytes_of_hex(alloc, &RISCV)?;
+    let add = answered(alloc, "compile riscv64 1", ADD.as_bytes(), NO_FAULT)?;
     for Run(words, status, out, err) in &RUNS {
-        let left = answered(alloc, words, &add, NO_FAULT)?;
+        let left = answered(alloc, words, add.out.bytes(), NO_FAULT)?;
         assert_eq!(rt; left.status, *status, "{words}");
         assert_eq!(rt; left.out.bytes(), out.as_bytes(), "{words}");
         assert_eq!(rt; left.err.bytes(), err.as_bytes(), "{words}");
     }
     for Change(place, others, status, out, err) in &CHANGES {
-        let object = changed(alloc, &add, *place, others)?;
+        let object = changed(alloc, add.out.bytes(), *place, others)?;
         let left = answered(alloc, "run add 100 2 3", &object, NO_FAULT)?;
         assert_eq!(rt; left.status, *status, "{place}");
         assert_eq!(rt; left.out.bytes(), out.as_bytes(), "{place}");
@@ -338,13 +562,15 @@ fn generated(rt: HostRuntime) -> Result<(), Memory> {
 fn rules(rt: HostRuntime) -> Result<(), Memory> {
     let faults = Failing {
         read: 0,
-        room: 20_000,
+        rules: 0,
+        room: 100_000,
         error_room: 100,
     };
     let left = answered(rt.alloc(), "rules", b"", faults)?;
+    let text = str::from_utf8(left.out.bytes()).unwrap_or("");
     assert_eq!(rt; left.status, 0);
-    assert_eq!(rt; left.out.bytes().len(), 12_243);
-    assert!(rt; left.out.bytes().starts_with(b"# generic\n("));
+    assert!(rt; text.starts_with("# generic\n("));
+    assert_eq!(rt; text.find("# riscv64\n("), Some(12_243));
     Ok(())
 }
 
@@ -361,7 +587,17 @@ fn prefixes(rt: HostRuntime) -> Result<(), Memory> {
 #[test]
 fn faults(rt: HostRuntime) -> Result<(), Memory> {
     let ends = [
-        ("check riscv64", 0, 100, 100, 4, 0, "read fault\n"),
+        ("compile riscv64 1", 0, 100, 100, 4, 0, "read fault\n"),
+        ("compile riscv64 1", 1, 100, 100, 4, 0, "read fault\n"),
+        (
+            "compile riscv64 1",
+            u64::MAX,
+            100,
+            100,
+            5,
+            100,
+            "write fault\n",
+        ),
         ("check arm", 1, 100, 100, 4, 0, "read fault\n"),
         ("run add 10 1 2", 1, 100, 100, 4, 0, "read fault\n"),
         ("check riscv64", u64::MAX, 20, 100, 5, 20, "write fault\n"),
@@ -372,6 +608,7 @@ fn faults(rt: HostRuntime) -> Result<(), Memory> {
     for (words, read, room, error_room, status, out, err) in ends {
         let faults = Failing {
             read,
+            rules: 0,
             room,
             error_room,
         };

@@ -1,19 +1,8 @@
 -- How the machine goes on: runs in sequence, code in the text, and what each instruction does.
-use Rattle.std.proofs.Common.{◌≡◌, ℕ, suc, ◌+◌, ◌*◌, ◌/◌, ◌%◌, ◌^◌, ◌<◌, ◌≤◌, ◌≢◌, List, [], ◌∷◌, ◌++◌, length, drop, ap, ◌∙◌, refl, arith, Option, Some, None, true, false, cond, ℤ, inl, inr}
+use Rattle.std.proofs.Common.{◌≡◌, ℕ, suc, ◌+◌, ◌*◌, ◌<◌, ◌≤◌, ◌≢◌, List, [], ◌∷◌, ◌++◌, length, drop, ap, ◌∙◌, refl, arith, Option, Some, None, true, cond, inl, inr}
 use Rattle.std.specs.Prelude.{slice_index, slice_index_or, slice_set, map, ◌==◌, nat_le, ◌&&◌}
 use Rattle.std.proofs.lemmas.Bool.Decides.{nat_tests}
 use Rattle.std.proofs.lemmas.List.{get_or-set_same, get_or-set_other}
-use Rattle.bk_rv_isa.specs.declared.inst.RegisterOp.{RegisterOp}
-use Rattle.bk_rv_isa.specs.declared.inst.RegisterOp.TheVariants.{Add}
-use Rattle.bk_rv_isa.specs.declared.inst.ImmediateOp.TheVariants.{Addi}
-use Rattle.bk_rv_isa.specs.declared.inst.ImmediateOp.{ImmediateOp}
-use Rattle.bk_rv_isa.specs.declared.inst.ShiftOp.{ShiftOp}
-use Rattle.bk_rv_isa.specs.declared.inst.LoadOp.{LoadOp}
-use Rattle.bk_rv_isa.specs.declared.inst.LoadOp.TheVariants.{Ld}
-use Rattle.bk_rv_isa.specs.declared.inst.StoreOp.{StoreOp}
-use Rattle.bk_rv_isa.specs.declared.inst.StoreOp.TheVariants.{Sd}
-use Rattle.bk_rv_isa.specs.declared.inst.BranchOp.{BranchOp}
-use Rattle.bk_rv_isa.specs.declared.inst.BranchOp.TheVariants.{Bgeu}
 use Rattle.bk_rv_isa.specs.declared.inst.Inst.{Inst}
 use Rattle.bk_rv_isa.specs.declared.inst.Inst.TheVariants.{Op, OpImm, Shift, Addiw, Load, Store, Branch, Lui, Auipc, Jal, Jalr, Ebreak}
 use Rattle.bk_machine.specs.declared.stop.Stop.{Stop}
@@ -25,22 +14,9 @@ use Rattle.bk_machine.proofs.Running.{goes_on, halts}
 use Rattle.bk_rv_isa.specs.Encoding.{fits, word, decoding}
 use Rattle.bk_rv_isa.proofs.Rows.{chosen}
 use Rattle.bk_rv_isa.proofs.Words.{decode_word}
-use Rattle.bk_rv_isa.specs.Machine.{Machine, Gives, text_base, halt, reg, plus, fetch, load, store, jumped, with_reg, with_windows, register_result, immediate_result, shift_result, load_size, load_result, store_size, is_taken, on_load, on_store, act, act_if, step, go_on, run, HasAt, Begins, Goes, Leads}
+use Rattle.bk_rv_isa.specs.Machine.{Machine, text_base, halt, reg, plus, fetch, load, store, with_reg, with_windows, load_size, load_result, store_size, on_load, on_store, act, act_if, step, go_on, run, HasAt, Begins, Goes}
 
 -- runs
-
-pub led : (s : ℕ) (m m' : Machine) → Goes s m m' → Leads m m'
-led s m m' g = record { by = λ k. (s + k, g.by k) }
-
-pub stays : (m : Machine) → Leads m m
-stays m = record { by = λ k. (k, refl) }
-
-pub then : (m m1 m2 : Machine) → Leads m m1 → Leads m1 m2 → Leads m m2
-then m m1 m2 l r = record { by = λ k. let b = r.by k in let a = l.by b.0 in (a.0, a.1 ∙ b.1) }
-
--- the stop that a later machine comes to
-pub stops : (m m' : Machine) (n : ℕ) (g : Gives) → Leads m m' → run n m' ≡ g → (j : ℕ) × (run j m ≡ g)
-stops m m' n g l e = let b = l.by n in (b.0, b.1 ∙ e)
 
 -- the machine at the return address has returned
 pub returned : (m : Machine) → m.pc ≡ halt → run 1 m ≡ (Some Returned, m)
@@ -81,64 +57,6 @@ one m i h k = ap (λ g. go_on g (run k)) (steps_to m i h)
 -- an instruction that gives the next machine is a step to it
 pub once : (m m' : Machine) (i : Inst) → fetch m.text m.pc ≡ Some i → act i m ≡ (None, m') → Goes 1 m m'
 once m m' i h e = running.once step m m' (steps_to m i h ∙ e)
-
-pub leads : (m m' : Machine) (i : Inst) → fetch m.text m.pc ≡ Some i → act i m ≡ (None, m') → Leads m m'
-leads m m' i h e = led 1 m m' (once m m' i h e)
-
-pub op : (m : Machine) (o : RegisterOp) (rd a b n : ℕ) → fetch m.text m.pc ≡ Some (Op o rd a b) → register_result o (reg m.regs a) (reg m.regs b) ≡ n → Leads m (with_reg m rd n)
-op m o rd a b n h e = leads m (with_reg m rd n) (Op o rd a b) h (ap (λ v. (None, with_reg m rd v)) e)
-
-pub op_imm : (m : Machine) (o : ImmediateOp) (rd a n : ℕ) (z : ℤ) → fetch m.text m.pc ≡ Some (OpImm o rd a z) → immediate_result o (reg m.regs a) z ≡ n → Leads m (with_reg m rd n)
-op_imm m o rd a n z h e = leads m (with_reg m rd n) (OpImm o rd a z) h (ap (λ v. (None, with_reg m rd v)) e)
-
-pub shift : (m : Machine) (o : ShiftOp) (rd a c n : ℕ) → fetch m.text m.pc ≡ Some (Shift o rd a c) → shift_result o (reg m.regs a) c ≡ n → Leads m (with_reg m rd n)
-shift m o rd a c n h e = leads m (with_reg m rd n) (Shift o rd a c) h (ap (λ v. (None, with_reg m rd v)) e)
-
-pub addi : (m : Machine) (rd a n : ℕ) (z : ℤ) → fetch m.text m.pc ≡ Some (OpImm Addi rd a z) → plus (reg m.regs a) z ≡ n → Leads m (with_reg m rd n)
-addi m rd a n z h e = op_imm m Addi rd a n z h e
-
-pub add : (m : Machine) (rd a b n : ℕ) → fetch m.text m.pc ≡ Some (Op Add rd a b) → (reg m.regs a + reg m.regs b) % 2 ^ 64 ≡ n → Leads m (with_reg m rd n)
-add m rd a b n h e = op m Add rd a b n h e
-
-pub loads : (m : Machine) (o : LoadOp) (rd a n address : ℕ) (z : ℤ) → fetch m.text m.pc ≡ Some (Load o rd a z) → plus (reg m.regs a) z ≡ address → load m (load_size o) address ≡ Some n → Leads m (with_reg m rd (load_result o n))
-loads m o rd a n address z h e l =
-    leads m (with_reg m rd (load_result o n)) (Load o rd a z) h
-    (ap (λ v. on_load m v (load m (load_size o) v) (λ n. with_reg m rd (load_result o n))) e
-    ∙ ap (λ v. on_load m address v (λ n. with_reg m rd (load_result o n))) l)
-
-pub ld : (m : Machine) (rd a n address : ℕ) (z : ℤ) → fetch m.text m.pc ≡ Some (Load Ld rd a z) → plus (reg m.regs a) z ≡ address → load m 8 address ≡ Some n → Leads m (with_reg m rd n)
-ld m rd a n address z h e l = loads m Ld rd a n address z h e l
-
-pub stores : (m : Machine) (window stack : List ℕ) (o : StoreOp) (src a n address : ℕ) (z : ℤ) → fetch m.text m.pc ≡ Some (Store o src a z) → plus (reg m.regs a) z ≡ address → reg m.regs src ≡ n → store m (store_size o) address n ≡ Some (window, stack) → Leads m (with_windows m window stack)
-stores m window stack o src a n address z h e f l =
-    leads m (with_windows m window stack) (Store o src a z) h
-    (ap (λ v. on_store m v (store m (store_size o) v (reg m.regs src))) e
-    ∙ ap (λ v. on_store m address (store m (store_size o) address v)) f
-    ∙ ap (on_store m address) l)
-
-pub sd : (m : Machine) (window stack : List ℕ) (src a n address : ℕ) (z : ℤ) → fetch m.text m.pc ≡ Some (Store Sd src a z) → plus (reg m.regs a) z ≡ address → reg m.regs src ≡ n → store m 8 address n ≡ Some (window, stack) → Leads m (with_windows m window stack)
-sd m window stack src a n address z h e f l = stores m window stack Sd src a n address z h e f l
-
-pub branch_yes : (m : Machine) (o : BranchOp) (a b pc : ℕ) (z : ℤ) → fetch m.text m.pc ≡ Some (Branch o a b z) → is_taken o (reg m.regs a) (reg m.regs b) ≡ true → plus m.pc z ≡ pc → Leads m (jumped m pc)
-branch_yes m o a b pc z h t e =
-    leads m (jumped m pc) (Branch o a b z) h
-    (ap (λ c. (None, jumped m (cond c (plus m.pc z) (m.pc + 4)))) t
-    ∙ ap (λ p. (None, jumped m p)) e)
-
-pub branch_no : (m : Machine) (o : BranchOp) (a b : ℕ) (z : ℤ) → fetch m.text m.pc ≡ Some (Branch o a b z) → is_taken o (reg m.regs a) (reg m.regs b) ≡ false → Leads m (jumped m (m.pc + 4))
-branch_no m o a b z h t = leads m (jumped m (m.pc + 4)) (Branch o a b z) h (ap (λ c. (None, jumped m (cond c (plus m.pc z) (m.pc + 4)))) t)
-
-pub bgeu_yes : (m : Machine) (a b pc : ℕ) (z : ℤ) → fetch m.text m.pc ≡ Some (Branch Bgeu a b z) → reg m.regs b ≤ reg m.regs a → plus m.pc z ≡ pc → Leads m (jumped m pc)
-bgeu_yes m a b pc z h le e = let t : nat_le (reg m.regs b) (reg m.regs a) ≡ true = grind (arith, nat_tests) in branch_yes m Bgeu a b pc z h t e
-
-pub bgeu_no : (m : Machine) (a b : ℕ) (z : ℤ) → fetch m.text m.pc ≡ Some (Branch Bgeu a b z) → reg m.regs a < reg m.regs b → Leads m (jumped m (m.pc + 4))
-bgeu_no m a b z h lt = let t : nat_le (reg m.regs b) (reg m.regs a) ≡ false = grind (arith, nat_tests) in branch_no m Bgeu a b z h t
-
-pub jalr : (m : Machine) (rd a pc : ℕ) (z : ℤ) → fetch m.text m.pc ≡ Some (Jalr rd a z) → plus (reg m.regs a) z / 2 * 2 ≡ pc → Leads m (jumped (with_reg m rd (m.pc + 4)) pc)
-jalr m rd a pc z h e = leads m (jumped (with_reg m rd (m.pc + 4)) pc) (Jalr rd a z) h (ap (λ p. (None, jumped (with_reg m rd (m.pc + 4)) p)) e)
-
-pub jal : (m : Machine) (rd pc : ℕ) (z : ℤ) → fetch m.text m.pc ≡ Some (Jal rd z) → plus m.pc z ≡ pc → Leads m (jumped (with_reg m rd (m.pc + 4)) pc)
-jal m rd pc z h e = leads m (jumped (with_reg m rd (m.pc + 4)) pc) (Jal rd z) h (ap (λ p. (None, jumped (with_reg m rd (m.pc + 4)) p)) e)
 
 trap_test : (v : ℕ) → 1 ≤ v → v ≤ 6 → nat_le 1 v && nat_le v 6 ≡ true
 trap_test v h k = grind (arith, nat_tests)

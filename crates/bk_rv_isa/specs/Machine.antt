@@ -1,5 +1,5 @@
 -- The machine, its step and its start.
-use Rattle.std.specs.Prelude.{◌≡◌, ◌≤◌, ℕ, ℤ, pos, List, [], ◌∷◌, ◌++◌, length, ◌+◌, ◌*◌, ◌-◌, ◌/◌, ◌%◌, ◌^◌, ◌*ℤ◌, ◌-ℤ◌, Bool, true, false, not, nat_lt, nat_le, int_lt, ◌&&◌, ◌==◌, if◌then◌else◌, Option, Some, None, slice_index, slice_set, replicate, min, map, drop, bit_and, bit_or, bit_xor, int_div, int_rem}
+use Rattle.std.specs.Prelude.{◌≤◌, ℕ, ℤ, pos, List, [], ◌∷◌, ◌++◌, length, ◌+◌, ◌*◌, ◌-◌, ◌/◌, ◌%◌, ◌^◌, ◌*ℤ◌, ◌-ℤ◌, Bool, true, false, not, nat_lt, nat_le, int_lt, ◌&&◌, ◌==◌, if◌then◌else◌, Option, Some, None, slice_index, slice_set, replicate, min, map, drop, bit_and, bit_or, bit_xor, int_div, int_rem}
 use Rattle.std.specs.Int.{int_div_euclid}
 use Rattle.bk_num.specs.Word.{signed, residue, high_half}
 use Rattle.bk_rv_isa.specs.declared.inst.RegisterOp.{RegisterOp}
@@ -244,7 +244,3 @@ Begins words is = texts.Begins decoding words is
 -- after this many steps, none of which stops, the first machine is the second
 abbrev pub Goes : ℕ → Machine → Machine → Type 0
 Goes steps m m' = runs.Goes step steps m m'
-
--- from the first machine comes the second: each run of the second ends a run of the first
-pub record Leads (m m' : Machine) : Type 0 where
-  pub by : (k : ℕ) → (j : ℕ) × (run j m ≡ run k m')

@@ -5,3 +5,4 @@ pub mod Endings
 pub mod Named
 pub mod Told
 pub mod Refusing
+pub mod Reading

@@ -1,24 +1,76 @@
 -- What the program answers to its words and its input.
-use Rattle.std.specs.Prelude.{◌≡◌, ℕ, ◌<◌, ◌≤◌, List, ◌++◌, length, take, sum_by, Option, IfSome, Ok, Err, codes}
+use Rattle.std.specs.Prelude.{◌≡◌, ◌≢◌, ℕ, ◌<◌, ◌≤◌, ◌⊎◌, true, List, [], ◌∷◌, ◌++◌, length, take, map, sum_by, slice_get, Option, None, Some, IfSome, unwrap_or, Ok, Err, codes, string_bytes}
 use Rattle.bk_ops.specs.declared.types.Target.{Target}
 use Rattle.std.specs.Fmt.{decimal}
 use Rattle.std.specs.Io.KnownBytes.{Appends}
 use Rattle.bk_io.specs.Faults.{Rose}
 use Rattle.bk_elf.specs.declared.errors.LoadError.{LoadError}
 use Rattle.bk_elf.specs.Loading.{loaded}
-use Rattle.bk_func.specs.Records.{PackageRecord}
+use Rattle.bk_func.specs.Records.{FuncRecord, PackageRecord}
+use Rattle.bk_rule.specs.declared.trees.Rule.{Rule}
+use Rattle.bk_rule_text.specs.Texts.{rules_of}
+use Rattle.bk_rule_text.specs.declared.errors.RuleError.TheVariants as rule
+use Rattle.bk_work.specs.declared.refusals.Cause.{Cause}
+use Rattle.bk_work.specs.declared.refusals.Refusal.{Refusal as FuncRefusal}
+use Rattle.bk_work.specs.Package.{IsCompiled, AreRefused, IsTooLong}
 use Rattle.bk_dump.specs.declared.read.errors.DumpError.{DumpError}
 use Rattle.bk_dump.specs.declared.read.errors.DumpError.TheVariants as why
 use Rattle.bk_dump.specs.Print.{text_of}
 use Rattle.bk_dump.specs.Generate.{generated}
 use Rattle.bk_top.specs.declared.refusal.Refusal.{Refusal}
-use Rattle.bk_top.specs.declared.refusal.Refusal.TheVariants.{Words, ReadFault, TooLong, Syntax, Limit, Duplicate, Undefined, FormFault, Object, Function, Arguments, WriteFault, Memory}
-use Rattle.bk_top.specs.Commands.{CommandRecord, check_row, generate_row, run_row, evaluate_row, rules_row, Asks}
+use Rattle.bk_top.specs.declared.refusal.Refusal.TheVariants.{Words, ReadFault, TooLong, ExtraTooLong, RuleSyntax, RuleOp, Syntax, Limit, Duplicate, Undefined, FormFault, Functions, Text, Object, Function, Arguments, WriteFault, Memory}
+use Rattle.bk_top.specs.declared.refusal.RefusedFunc.{RefusedFunc}
+use Rattle.bk_top.specs.Commands.{CommandRecord, HasCode, compile_row, check_row, generate_row, run_row, evaluate_row, rules_row, Asks}
 use Rattle.bk_top.specs.Refusals.{status, line}
 use Rattle.bk_top.specs.Running.{Runs, LacksFunction, Misfits}
 use Rattle.bk_top.specs.Package.{ReadsAs, text_limit}
 use Rattle.bk_top.specs.Evaluating.{Evaluates, LacksNamed, MisfitsNamed}
 use Rattle.bk_top.specs.Listing.{listing}
+
+-- what a source holds, where that is known, and its count of faults before and now
+pub record Stream : Type 0 where
+  pub left : Option (List ℕ)
+  pub before : ℕ
+  pub now : ℕ
+
+abbrev pub stream : Option (List ℕ) → ℕ → ℕ → Stream
+stream left before now = record { left = left; before = before; now = now }
+
+-- what `compile` makes with extra rules: the object of the package that the text reads as
+abbrev pub Compiles : Target → List Rule → List ℕ → List ℕ → Type 0
+Compiles target rules text bytes = (p : PackageRecord) × ReadsAs text target (Ok p) × IsCompiled p target rules bytes
+
+-- a name and a cause for each of the functions
+abbrev pub name_in : PackageRecord → Option FuncRecord → List ℕ
+name_in p None = []
+name_in p (Some f) = unwrap_or (slice_get p.names f.name) []
+
+abbrev pub func_name : PackageRecord → ℕ → List ℕ
+func_name p place = name_in p (slice_get p.funcs place)
+
+abbrev pub named_cause : RefusedFunc → List ℕ × Cause
+named_cause r = (string_bytes r.name, r.cause)
+
+abbrev pub cause_in : PackageRecord → FuncRefusal → List ℕ × Cause
+cause_in p r = (func_name p r.func, r.cause)
+
+-- all functions of the package that are refused, by their names
+abbrev pub AreNamed : PackageRecord → Target → List Rule → List RefusedFunc → Type 0
+AreNamed p target rules refused = (rs : List FuncRefusal) × AreRefused p target rules rs × (map named_cause refused ≡ map (cause_in p) rs)
+
+-- what is told of a package whose functions have no frames
+abbrev pub IsFrameRefusal : PackageRecord → Target → Refusal → Type 0
+IsFrameRefusal p target (Functions refused) = HasCode target × AreNamed p target [] refused.items
+IsFrameRefusal p target Memory = Unit {0}
+IsFrameRefusal p target refusal = ⊥
+
+-- functions of the package that the text reads as are refused
+abbrev pub Refuses : Target → List Rule → List ℕ → List RefusedFunc → Type 0
+Refuses target rules text refused = (p : PackageRecord) × ReadsAs text target (Ok p) × AreNamed p target rules refused
+
+-- text and pool of the package that the text reads as are too long
+abbrev pub IsLong : Target → List Rule → List ℕ → ℕ → Type 0
+IsLong target rules text n = (p : PackageRecord) × ReadsAs text target (Ok p) × IsTooLong p target rules n
 
 -- the line of a package's counts
 abbrev pub counts : PackageRecord → List ℕ
@@ -32,16 +84,29 @@ Checks target text bytes = (p : PackageRecord) × ReadsAs text target (Ok p) × 
 abbrev pub IsInput : Option (List ℕ) → List ℕ → Type 0
 IsInput input text = IfSome input (λ bytes. text ≡ bytes)
 
--- what a command makes of an input
-abbrev pub Makes : CommandRecord → Option (List ℕ) → List ℕ → Type 0
-Makes (check_row target) input bytes = (text : List ℕ) × IsInput input text × Checks target text bytes
-Makes (generate_row n) input bytes = bytes ≡ text_of (generated n)
-Makes (run_row call) input bytes = (object : List ℕ) × IsInput input object × Runs call object bytes
-Makes (evaluate_row target call) input bytes = (text : List ℕ) × IsInput input text × Evaluates target call text bytes
-Makes rules_row input bytes = bytes ≡ listing
+-- the extra rules: none without their word, else those that the text reads as
+abbrev pub AreExtra : List (List ℕ) → Option (List ℕ) → List Rule → Type 0
+AreExtra [] extra rules = rules ≡ []
+AreExtra (word ∷ words) extra rules = (text : List ℕ) × IsInput extra text × (rules_of true text ≡ Ok rules)
+
+-- what a command makes of an input and of extra rules
+abbrev pub Makes : CommandRecord → Option (List ℕ) → Option (List ℕ) → List ℕ → Type 0
+Makes (compile_row r) input extra bytes =
+    (rules : List Rule) × AreExtra r.rules extra rules × ((text : List ℕ) × IsInput input text × Compiles r.target rules text bytes)
+Makes (check_row target) input extra bytes = (text : List ℕ) × IsInput input text × Checks target text bytes
+Makes (generate_row n) input extra bytes = bytes ≡ text_of (generated n)
+Makes (run_row call) input extra bytes = (object : List ℕ) × IsInput input object × Runs call object bytes
+Makes (evaluate_row target call) input extra bytes = (text : List ℕ) × IsInput input text × Evaluates target call text bytes
+Makes rules_row input extra bytes = bytes ≡ listing
+
+-- a command that reads the extra rules
+abbrev pub ReadsExtra : CommandRecord → Type 0
+ReadsExtra (compile_row r) = r.rules ≢ []
+ReadsExtra _ = ⊥
 
 -- a command that reads its input
 abbrev pub ReadsInput : CommandRecord → Type 0
+ReadsInput (compile_row r) = Unit {0}
 ReadsInput (check_row target) = Unit {0}
 ReadsInput (generate_row n) = ⊥
 ReadsInput (run_row call) = Unit {0}
@@ -52,8 +117,13 @@ ReadsInput rules_row = ⊥
 abbrev pub object_limit : ℕ
 object_limit = 67108864
 
+-- the most bytes of the text of extra rules
+abbrev pub rules_limit : ℕ
+rules_limit = 65536
+
 -- the most bytes of a command's input
 abbrev pub input_limit : CommandRecord → ℕ
+input_limit (compile_row r) = text_limit
 input_limit (check_row target) = text_limit
 input_limit (generate_row n) = text_limit
 input_limit (run_row call) = object_limit
@@ -62,14 +132,34 @@ input_limit rules_row = text_limit
 
 -- the reader of packages refuses the text of a command
 abbrev pub IsUnread : CommandRecord → List ℕ → DumpError → Type 0
+IsUnread (compile_row r) text e = ReadsAs text r.target (Err e)
 IsUnread (check_row target) text e = ReadsAs text target (Err e)
 IsUnread (generate_row n) text e = ⊥
 IsUnread (run_row call) text e = ⊥
 IsUnread (evaluate_row target call) text e = ReadsAs text target (Err e)
 IsUnread rules_row text e = ⊥
 
+-- the command makes code, and functions of the package that the text reads as are refused
+abbrev pub HasRefused : CommandRecord → List Rule → List ℕ → List RefusedFunc → Type 0
+HasRefused (compile_row r) rules text refused = Refuses r.target rules text refused
+HasRefused (check_row target) rules text refused = ⊥
+HasRefused (generate_row n) rules text refused = ⊥
+HasRefused (run_row call) rules text refused = ⊥
+HasRefused (evaluate_row target call) rules text refused = HasCode target × Refuses target [] text refused
+HasRefused rules_row rules text refused = ⊥
+
+-- the command makes code that is too long
+abbrev pub HasLong : CommandRecord → List Rule → List ℕ → ℕ → Type 0
+HasLong (compile_row r) rules text n = IsLong r.target rules text n
+HasLong (check_row target) rules text n = ⊥
+HasLong (generate_row n) rules text k = ⊥
+HasLong (run_row call) rules text n = ⊥
+HasLong (evaluate_row target call) rules text n = ⊥
+HasLong rules_row rules text n = ⊥
+
 -- the command runs a function of an object, and its input is none
 abbrev pub IsNoObject : CommandRecord → List ℕ → LoadError → Type 0
+IsNoObject (compile_row r) text e = ⊥
 IsNoObject (check_row target) text e = ⊥
 IsNoObject (generate_row n) text e = ⊥
 IsNoObject (run_row call) text e = loaded text ≡ Err e
@@ -78,6 +168,7 @@ IsNoObject rules_row text e = ⊥
 
 -- the command calls a function that is not there
 abbrev pub HasNone : CommandRecord → List ℕ → Type 0
+HasNone (compile_row r) text = ⊥
 HasNone (check_row target) text = ⊥
 HasNone (generate_row n) text = ⊥
 HasNone (run_row call) text = LacksFunction call text
@@ -86,41 +177,60 @@ HasNone rules_row text = ⊥
 
 -- the command calls a function by words that do not fit it
 abbrev pub HasOthers : CommandRecord → List ℕ → Type 0
+HasOthers (compile_row r) text = ⊥
 HasOthers (check_row target) text = ⊥
 HasOthers (generate_row n) text = ⊥
 HasOthers (run_row call) text = Misfits call text
 HasOthers (evaluate_row target call) text = MisfitsNamed target call text
 HasOthers rules_row text = ⊥
 
--- a refusal of a command's text
-abbrev pub Spoils : CommandRecord → List ℕ → Refusal → Type 0
-Spoils command text Words = ⊥
-Spoils command text ReadFault = ⊥
-Spoils command text TooLong = ⊥
-Spoils command text (Syntax n) = IsUnread command text (why.Syntax n)
-Spoils command text (Limit which n) = IsUnread command text (why.Limit which n)
-Spoils command text (Duplicate n) = IsUnread command text (why.Duplicate n)
-Spoils command text (Undefined name) = IsUnread command text (why.Undefined name)
-Spoils command text (FormFault func kind place) = IsUnread command text (why.FormFault func kind place)
-Spoils command text (Object e) = IsNoObject command text e
-Spoils command text Function = HasNone command text
-Spoils command text Arguments = HasOthers command text
-Spoils command text WriteFault = ⊥
-Spoils command text Memory = Unit {0}
+-- a refusal of a command's text, with extra rules
+abbrev pub Spoils : CommandRecord → List Rule → List ℕ → Refusal → Type 0
+Spoils command rules text Words = ⊥
+Spoils command rules text ReadFault = ⊥
+Spoils command rules text TooLong = ⊥
+Spoils command rules text ExtraTooLong = ⊥
+Spoils command rules text (RuleSyntax n) = ⊥
+Spoils command rules text (RuleOp n) = ⊥
+Spoils command rules text (Syntax n) = IsUnread command text (why.Syntax n)
+Spoils command rules text (Limit which n) = IsUnread command text (why.Limit which n)
+Spoils command rules text (Duplicate n) = IsUnread command text (why.Duplicate n)
+Spoils command rules text (Undefined name) = IsUnread command text (why.Undefined name)
+Spoils command rules text (FormFault func kind place) = IsUnread command text (why.FormFault func kind place)
+Spoils command rules text (Functions refused) = HasRefused command rules text refused.items
+Spoils command rules text (Text n) = HasLong command rules text n
+Spoils command rules text (Object e) = IsNoObject command text e
+Spoils command rules text Function = HasNone command text
+Spoils command rules text Arguments = HasOthers command text
+Spoils command rules text WriteFault = ⊥
+Spoils command rules text Memory = Unit {0}
 
--- A refusal of a command: faults are counts that rose, want of memory is free, and all else is in the input.
-abbrev pub Stems : CommandRecord → Option (List ℕ) → ℕ → ℕ → Refusal → Type 0
-Stems command input before now Words = ⊥
-Stems command input before now WriteFault = ⊥
-Stems command input before now ReadFault = ReadsInput command × Rose before now
-Stems command input before now TooLong = ReadsInput command × IfSome input (λ text. input_limit command < length text)
-Stems command input before now Memory = Unit {0}
-Stems command input before now refusal = ReadsInput command × IfSome input (λ text. Spoils command text refusal)
+-- what holds of the extra rules of a command, which are read before its input
+abbrev pub WithRules : CommandRecord → Option (List ℕ) → (List Rule → Type 0) → Type 0
+WithRules (compile_row r) extra P = (rules : List Rule) × AreExtra r.rules extra rules × P rules
+WithRules (check_row target) extra P = P []
+WithRules (generate_row n) extra P = P []
+WithRules (run_row call) extra P = P []
+WithRules (evaluate_row target call) extra P = P []
+WithRules rules_row extra P = P []
+
+-- A refusal of a command by its input and its extra rules: faults are counts that rose, want of memory is free, and all
+-- else is in what they hold. One of the input comes only where the extra rules are read.
+abbrev pub Stems : CommandRecord → Stream → Stream → Refusal → Type 0
+Stems command i x Words = ⊥
+Stems command i x WriteFault = ⊥
+Stems command i x ReadFault = (ReadsInput command × WithRules command x.left (λ rules. Rose i.before i.now)) ⊎ (ReadsExtra command × Rose x.before x.now)
+Stems command i x TooLong = ReadsInput command × WithRules command x.left (λ rules. IfSome i.left (λ text. input_limit command < length text))
+Stems command i x ExtraTooLong = ReadsExtra command × IfSome x.left (λ text. rules_limit < length text)
+Stems command i x (RuleSyntax n) = ReadsExtra command × IfSome x.left (λ text. rules_of true text ≡ Err (rule.RuleSyntax n))
+Stems command i x (RuleOp n) = ReadsExtra command × IfSome x.left (λ text. rules_of true text ≡ Err (rule.RuleOp n))
+Stems command i x Memory = Unit {0}
+Stems command i x refusal = ReadsInput command × WithRules command x.left (λ rules. IfSome i.left (λ text. Spoils command rules text refusal))
 
 -- why a refusal comes: no command has these words, or the refusal is one of theirs
-abbrev pub Cause : List (List ℕ) → Option (List ℕ) → ℕ → ℕ → Refusal → Type 0
-Cause words input before now Words = (command : CommandRecord) → Asks words command → ⊥
-Cause words input before now refusal = (command : CommandRecord) × Asks words command × Stems command input before now refusal
+abbrev pub Causes : List (List ℕ) → Stream → Stream → Refusal → Type 0
+Causes words i x Words = (command : CommandRecord) → Asks words command → ⊥
+Causes words i x refusal = (command : CommandRecord) × Asks words command × Stems command i x refusal
 
 -- a count of faults has not risen
 abbrev pub NoFault : ℕ → ℕ → Type 0
@@ -131,19 +241,19 @@ abbrev pub AppendsFront : Option (List ℕ) → Option (List ℕ) → List ℕ �
 AppendsFront before now bytes = (n : ℕ) × (n ≤ length bytes) × Appends before now (take n bytes)
 
 -- the output gained what the command of the words makes
-pub record Gains (words : List (List ℕ)) (input before now : Option (List ℕ)) : Type 0 where
+pub record Gains (words : List (List ℕ)) (input extra before now : Option (List ℕ)) : Type 0 where
   pub command : CommandRecord
   pub asked : Asks words command
   pub bytes : List ℕ
-  pub made : Makes command input bytes
+  pub made : Makes command input extra bytes
   pub gained : Appends before now bytes
 
 -- the output gained a front of what the command of the words makes
-pub record GainsFront (words : List (List ℕ)) (input before now : Option (List ℕ)) : Type 0 where
+pub record GainsFront (words : List (List ℕ)) (input extra before now : Option (List ℕ)) : Type 0 where
   pub command : CommandRecord
   pub asked : Asks words command
   pub bytes : List ℕ
-  pub made : Makes command input bytes
+  pub made : Makes command input extra bytes
   pub gained : AppendsFront before now bytes
 
 -- the error stream gained the line of a refusal, and the answer is its status
@@ -151,9 +261,9 @@ abbrev pub Tells : Refusal → ℕ → Option (List ℕ) → Option (List ℕ) �
 Tells refusal answer before now = (answer ≡ status refusal) × Appends before now (line refusal)
 
 -- The answer is the status of a refusal that has its cause, and its line was told.
-pub record Refused (words : List (List ℕ)) (input : Option (List ℕ)) (before now answer : ℕ) (told telling : Option (List ℕ)) : Type 0 where
+pub record Refused (words : List (List ℕ)) (i x : Stream) (answer : ℕ) (told telling : Option (List ℕ)) : Type 0 where
   pub refusal : Refusal
-  pub cause : Cause words input before now refusal
+  pub cause : Causes words i x refusal
   pub tells : Tells refusal answer told telling
 
 -- a refusal that tells no more than its cause
@@ -163,6 +273,10 @@ IsPlain (Limit which n) = ⊥
 IsPlain (Duplicate n) = ⊥
 IsPlain (Undefined name) = ⊥
 IsPlain (FormFault func kind place) = ⊥
+IsPlain (RuleSyntax n) = ⊥
+IsPlain (RuleOp n) = ⊥
+IsPlain (Functions refused) = ⊥
+IsPlain (Text n) = ⊥
 IsPlain (Object e) = ⊥
 IsPlain refusal = Unit {0}
 
@@ -175,6 +289,22 @@ IsReaders text target (Undefined name) = ReadsAs text target (Err (why.Undefined
 IsReaders text target (FormFault func kind place) = ReadsAs text target (Err (why.FormFault func kind place))
 IsReaders text target Memory = Unit {0}
 IsReaders text target refusal = ⊥
+
+-- a refusal of the text of extra rules
+abbrev pub IsRulesRefusal : List ℕ → Refusal → Type 0
+IsRulesRefusal text (RuleSyntax n) = rules_of true text ≡ Err (rule.RuleSyntax n)
+IsRulesRefusal text (RuleOp n) = rules_of true text ≡ Err (rule.RuleOp n)
+IsRulesRefusal text Memory = Unit {0}
+IsRulesRefusal text refusal = ⊥
+
+-- a refusal to read the extra rules
+abbrev pub IsExtraRefusal : Stream → Refusal → Type 0
+IsExtraRefusal x ReadFault = Rose x.before x.now
+IsExtraRefusal x ExtraTooLong = IfSome x.left (λ text. rules_limit < length text)
+IsExtraRefusal x (RuleSyntax n) = IfSome x.left (λ text. rules_of true text ≡ Err (rule.RuleSyntax n))
+IsExtraRefusal x (RuleOp n) = IfSome x.left (λ text. rules_of true text ≡ Err (rule.RuleOp n))
+IsExtraRefusal x Memory = Unit {0}
+IsExtraRefusal x refusal = ⊥
 
 -- a refusal to read an input of at most so many bytes
 abbrev pub IsReading : ℕ → Option (List ℕ) → ℕ → ℕ → Refusal → Type 0

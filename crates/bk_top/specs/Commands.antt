@@ -5,7 +5,8 @@ use Rattle.bk_ops.specs.declared.types.Target.{Target}
 use Rattle.bk_ops.specs.declared.types.Target.TheVariants.{Arm, Riscv64}
 use Rattle.bk_top.specs.declared.command.call.Call.{Call}
 use Rattle.bk_top.specs.declared.command.Command.{Command}
-use Rattle.bk_top.specs.declared.command.Command.TheVariants.{Check, Generate, Run, Evaluate, Rules}
+use Rattle.bk_top.specs.declared.command.Request.{Request}
+use Rattle.bk_top.specs.declared.command.Command.TheVariants.{Compile, Check, Generate, Run, Evaluate, Rules}
 
 -- a function by its name, a bound on its run, and the words of its arguments
 pub record CallRecord : Type 0 where
@@ -13,8 +14,15 @@ pub record CallRecord : Type 0 where
   pub bound : ℕ
   pub args : List (List ℕ)
 
+-- what is compiled, with how many threads, and the word of the extra rules, which may be missing
+pub record CompileRecord : Type 0 where
+  pub target : Target
+  pub workers : ℕ
+  pub rules : List (List ℕ)
+
 -- what words may ask for
 pub data CommandRecord : Type 0 where
+  compile_row : CompileRecord → CommandRecord
   check_row : Target → CommandRecord
   generate_row : ℕ → CommandRecord
   run_row : CallRecord → CommandRecord
@@ -24,7 +32,11 @@ pub data CommandRecord : Type 0 where
 abbrev pub seen_call : Call → CallRecord
 seen_call c = record { name = string_bytes c.name.now; bound = c.bound; args = map string_bytes c.args.now }
 
+abbrev pub seen_request : Request → CompileRecord
+seen_request r = record { target = r.target; workers = r.workers; rules = map string_bytes r.rules.now }
+
 abbrev pub seen : Command → CommandRecord
+seen (Compile request) = compile_row (seen_request request)
 seen (Check target) = check_row target
 seen (Generate n) = generate_row n
 seen (Run call) = run_row (seen_call call)
@@ -40,6 +52,7 @@ call_words c = c.name ∷ decimal c.bound ∷ c.args
 
 -- the words of a command
 abbrev pub words_of : CommandRecord → List (List ℕ)
+words_of (compile_row r) = codes "compile" ∷ target_word r.target ∷ decimal r.workers ∷ r.rules
 words_of (check_row target) = codes "check" ∷ target_word target ∷ []
 words_of (generate_row n) = codes "gen" ∷ decimal n ∷ []
 words_of (run_row call) = codes "run" ∷ call_words call
@@ -63,8 +76,14 @@ SpellsArgument word = (z : ℤ) × IsArgument z × (word ≡ signed_decimal z)
 abbrev pub IsCall : CallRecord → Type 0
 IsCall c = (c.bound < 2 ^ 64) × All SpellsArgument c.args
 
+-- the targets that code is made for
+abbrev pub HasCode : Target → Type 0
+HasCode Arm = ⊥
+HasCode Riscv64 = Unit {0}
+
 -- the numbers of a command are in their ranges
 abbrev pub IsInRange : CommandRecord → Type 0
+IsInRange (compile_row r) = HasCode r.target × (1 ≤ r.workers) × (r.workers ≤ 64) × (length r.rules ≤ 1)
 IsInRange (check_row target) = Unit {0}
 IsInRange (generate_row n) = (1 ≤ n) × (n ≤ 4096)
 IsInRange (run_row call) = IsCall call

@@ -1,12 +1,14 @@
 -- What `eval` tells: how a call of a function of a package ends.
 use Rattle.std.specs.Prelude.{◌≡◌, ℕ, ◌+◌, ◌-◌, ◌%◌, List, [], ◌∷◌, ◌++◌, length, take, replicate, slice_get, Some, None, Ok}
 use Rattle.bk_ops.specs.declared.types.Target.{Target}
+use Rattle.bk_ops.specs.declared.types.Target.TheVariants.{Arm, Riscv64}
 use Rattle.bk_func.specs.Records.{SigRecord, FuncRecord, VarRecord, PackageRecord}
 use Rattle.bk_func.specs.Meaning as mean
 use Rattle.bk_mean.specs.Eval.{function_named, program}
 use Rattle.bk_top.specs.Commands.{CallRecord}
 use Rattle.bk_top.specs.Arguments.{own_stack, Gives, DoNotFit}
 use Rattle.bk_top.specs.Package.{ReadsAs}
+use Rattle.bk_work.specs.Package.{AreFrames}
 use Rattle.bk_top.specs.Outcomes.{OutcomeRecord, returned, trapped, going, wild, outcome_line}
 
 -- the outcome of a run, as it is told
@@ -29,9 +31,14 @@ unfoldable pub window_of : List VarRecord → List ℕ
 window_of [] = []
 window_of (v ∷ vs) = filled (rounded v.size) v.bytes ++ window_of vs
 
--- how a call of the function at a place ends by the meaning of SSA: on the package's own data, with frames of 16 bytes
-abbrev pub ending : PackageRecord → Target → ℕ → List ℕ → ℕ → mean.Outcome × List ℕ
-ending p target place args bound = mean.meaning (program p target (replicate (length p.funcs) 16)) place args (window_of p.vars) own_stack bound
+-- the bytes of each function's frame: those of its code, or 16 where the target has none
+abbrev pub HaveFrames : Target → PackageRecord → List ℕ → Type 0
+HaveFrames Arm p frames = frames ≡ replicate (length p.funcs) 16
+HaveFrames Riscv64 p frames = AreFrames p Riscv64 frames
+
+-- how a call of the function at a place ends by the meaning of SSA: on the package's own data, with these frames
+abbrev pub ending : PackageRecord → Target → List ℕ → ℕ → List ℕ → ℕ → mean.Outcome × List ℕ
+ending p target frames place args bound = mean.meaning (program p target frames) place args (window_of p.vars) own_stack bound
 
 -- an outcome and a data window, as they are told
 abbrev pub told : mean.Outcome × List ℕ → OutcomeRecord × List ℕ
@@ -45,19 +52,22 @@ line_of target sig end = outcome_line target sig.results end.0 end.1
 pub record Evaluates (target : Target) (call : CallRecord) (text line : List ℕ) : Type 0 where
   pub pkg : PackageRecord
   pub reads : ReadsAs text target (Ok pkg)
+  pub frames : List ℕ
+  pub framed : HaveFrames target pkg frames
   pub place : ℕ
   pub func : FuncRecord
   pub named : function_named pkg call.name ≡ Some place
   pub found : slice_get pkg.funcs place ≡ Some func
   pub args : List ℕ
   pub given : Gives target func.sig.args call.args args
-  pub tells : line ≡ line_of target func.sig (told (ending pkg target place args call.bound))
+  pub tells : line ≡ line_of target func.sig (told (ending pkg target frames place args call.bound))
 
--- no function of the package that the text reads as has the name
+-- no function of the package that the text reads as has the name, and none is refused
 abbrev pub LacksNamed : Target → CallRecord → List ℕ → Type 0
-LacksNamed target call text = (p : PackageRecord) × ReadsAs text target (Ok p) × (function_named p call.name ≡ None)
+LacksNamed target call text =
+    (p : PackageRecord) × ReadsAs text target (Ok p) × ((frames : List ℕ) × HaveFrames target p frames) × (function_named p call.name ≡ None)
 
--- the words give no numbers for the arguments of the package's function
+-- the words give no numbers for the arguments of the package's function, and none is refused
 abbrev pub MisfitsNamed : Target → CallRecord → List ℕ → Type 0
 MisfitsNamed target call text =
-    (p : PackageRecord) × ReadsAs text target (Ok p) × (place : ℕ) × (f : FuncRecord) × (function_named p call.name ≡ Some place) × (slice_get p.funcs place ≡ Some f) × DoNotFit target f.sig.args call.args
+    (p : PackageRecord) × ReadsAs text target (Ok p) × ((frames : List ℕ) × HaveFrames target p frames) × (place : ℕ) × (f : FuncRecord) × (function_named p call.name ≡ Some place) × (slice_get p.funcs place ≡ Some f) × DoNotFit target f.sig.args call.args

@@ -1,13 +1,14 @@
 //! The line that tells a refusal.
 
 ghost use Rattle.std.specs.Prelude.{◌≡◌, ◌++◌, codes, string_bytes, IfOk, IfSome, IfNone};
-ghost use Rattle.bk_top.specs.Refusals.{limit_name, kind_name, place_name, line};
+ghost use Rattle.bk_top.specs.Refusals.{limit_name, kind_name, place_name, cause_text, func_line, line};
 ghost use Rattle.bk_top.specs.Answer.{IsPlain};
 
-use crate::refusal::Refusal;
+use crate::refusal::{Refusal, RefusedFunc};
 use bk_dump::Which;
 use bk_elf::LoadError;
 use bk_form::{FormKind, Place};
+use bk_work::Cause;
 use std::alloc::{AllocError, Global};
 
 fn limit_name(which: Which) -> &'static str
@@ -84,6 +85,40 @@ fn object_line(alloc: Global, error: LoadError) -> Result<String, AllocError>
     }
 }
 
+/// Why a function is not compiled.
+fn cause_text(alloc: Global, cause: Cause) -> Result<String, AllocError>
+    ensures { IfOk result (λ text. string_bytes text ≡ cause_text cause) }
+{
+    match cause {
+        Cause::Construct(value) => format!(in alloc; "construct v{value}"),
+        Cause::Passes(count) => format!(in alloc; "passes {count}"),
+        Cause::Grown(values) => format!(in alloc; "grown {values}"),
+        Cause::Frame(need) => format!(in alloc; "frame {need}"),
+    }
+}
+
+/// The line of a function that is not compiled.
+fn func_line(alloc: Global, refused: &RefusedFunc) -> Result<String, AllocError>
+    ensures { IfOk result (λ text. string_bytes text ≡ func_line refused.now) }
+{
+    let name = &refused.name;
+    let cause = cause_text(alloc, refused.cause)?;
+    format!(in alloc; "function {name}: {cause}\n")
+}
+
+/// The lines of the functions that are not compiled.
+#[tactic(auto, unfolding(crate::specs::Refusals::line))]
+fn func_lines(alloc: Global, refused: &Vec<RefusedFunc>) -> Result<String, AllocError>
+    ensures { IfOk result (λ text. string_bytes text ≡ line (Refusal.Functions refused.now)) }
+{
+    let mut text = String::new(alloc);
+    for it in refused {
+        let line = func_line(alloc, it)?;
+        text.push_str(&line)?;
+    }
+    Ok(text)
+}
+
 /// The line of a refusal that tells no more than its cause.
 #[tactic(auto, unfolding(crate::specs::Refusals::line))]
 pub fn plain_line(refusal: &Refusal) -> Option<&'static str>
@@ -93,6 +128,7 @@ pub fn plain_line(refusal: &Refusal) -> Option<&'static str>
     match refusal {
         Refusal::Words => Some("words\n"),
         Refusal::TooLong => Some("too long\n"),
+        Refusal::ExtraTooLong => Some("extra too long\n"),
         Refusal::Function => Some("function\n"),
         Refusal::Arguments => Some("arguments\n"),
         Refusal::ReadFault => Some("read fault\n"),
@@ -103,6 +139,10 @@ pub fn plain_line(refusal: &Refusal) -> Option<&'static str>
         | Refusal::Duplicate { .. }
         | Refusal::Undefined { .. }
         | Refusal::FormFault { .. }
+        | Refusal::RuleSyntax { .. }
+        | Refusal::RuleOp { .. }
+        | Refusal::Functions(_)
+        | Refusal::Text { .. }
         | Refusal::Object(_) => None,
     }
 }
@@ -120,6 +160,11 @@ pub fn line(alloc: Global, refusal: &Refusal) -> Result<String, AllocError>
         Refusal::FormFault { func, kind, place } => form_line(alloc, func, *kind, *place),
         Refusal::Words => String::from_str(alloc, "words\n"),
         Refusal::TooLong => String::from_str(alloc, "too long\n"),
+        Refusal::ExtraTooLong => String::from_str(alloc, "extra too long\n"),
+        Refusal::RuleSyntax { line } => format!(in alloc; "extra line {line}: syntax\n"),
+        Refusal::RuleOp { line } => format!(in alloc; "extra line {line}: op\n"),
+        Refusal::Functions(refused) => func_lines(alloc, refused),
+        Refusal::Text { bytes } => format!(in alloc; "text {bytes}\n"),
         Refusal::Object(error) => object_line(alloc, *error),
         Refusal::Function => String::from_str(alloc, "function\n"),
         Refusal::Arguments => String::from_str(alloc, "arguments\n"),

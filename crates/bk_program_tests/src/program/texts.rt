@@ -35,3 +35,48 @@ pub const STORE: &str =
 /// A comparison of two numbers of 64 bits.
 pub const LEQ: &str =
     "leq func(a int64, b int64) bool\nb1:\nv1 = InitMem <mem>\nv2 = Arg <int64> {a}\nv3 = Arg <int64> {b}\nv4 = Leq64 <bool> v2 v3\nv5 = MakeResult <bool,mem> v4 v1\nRet v5\n";
+
+/// The words of the sum's code.
+pub const ADD_CODE: [u32; 11] = [
+    0xff010f93, 0x01bff663, 0x00500f93, 0x00100073, 0x000f8113, 0x00113423, 0x00b502b3, 0x00028513,
+    0x00813083, 0x01010113, 0x00008067,
+];
+
+/// The sum, and a function that calls it.
+pub const ADD_AND_TWICE: &str =
+    "add func(a int, b int) int\nb1:\nv1 = InitMem <mem>\nv2 = Arg <int> {a}\nv3 = Arg <int> {b}\nv4 = Add64 <int> v2 v3\nv5 = MakeResult <int,mem> v4 v1\nRet v5\ntwice func(a int) int\nb1:\nv1 = InitMem <mem>\nv2 = Arg <int> {a}\nv3 = StaticLECall <mem> {add} v2 v2 v1\nv4 = SelectN <int> [0] v3\nv5 = SelectN <mem> [1] v3\nv6 = MakeResult <int,mem> v4 v5\nRet v6\n";
+
+/// The words of their code: the sum has no frame but for the swap word and the return address, the second has 40 bytes.
+pub const TWICE_CODE: [u32; 23] = [
+    0xff010f93, 0x01bff663, 0x00500f93, 0x00100073, 0x000f8113, 0x00113423, 0x00b502b3, 0x00028513,
+    0x00813083, 0x01010113, 0x00008067, 0xfd810f93, 0x01bff663, 0x00500f93, 0x00100073, 0x000f8113,
+    0x02113023, 0x00050593, 0x00000f97, 0xfb8f80e7, 0x02013083, 0x02810113, 0x00008067,
+];
+
+/// A function of a constant.
+pub const CONSTANT: &str =
+    "k func() int\nb1:\nv1 = InitMem <mem>\nv2 = Const64 <int> [1311768467463790320]\nv3 = MakeResult <int,mem> v2 v1\nRet v3\n";
+
+/// A quotient.
+pub const QUOTIENT: &str =
+    "d func(a int32, b int32) int32\nb1:\nv1 = InitMem <mem>\nv2 = Arg <int32> {a}\nv3 = Arg <int32> {b}\nv4 = Div32 <int32> v2 v3\nv5 = MakeResult <int32,mem> v4 v1\nRet v5\n";
+
+/// A remainder.
+pub const MOD: &str =
+    "m func(a int32, b int32) int32\nb1:\nv1 = InitMem <mem>\nv2 = Arg <int32> {a}\nv3 = Arg <int32> {b}\nv4 = Mod32 <int32> v2 v3\nv5 = MakeResult <int32,mem> v4 v1\nRet v5\n";
+
+/// A comparison of two numbers of 32 bits.
+pub const LESS: &str =
+    "less func(a int32, b int32) bool\nb1:\nv1 = InitMem <mem>\nv2 = Arg <int32> {a}\nv3 = Arg <int32> {b}\nv4 = Less32 <bool> v2 v3\nv5 = MakeResult <bool,mem> v4 v1\nRet v5\n";
+
+/// A loop without an end.
+pub const SPIN: &str =
+    "spin func()\nb1:\nv1 = InitMem <mem>\nPlain -> b2\nb2: <- b1 b2\nPlain -> b2\n";
+
+/// A function that counts its calls and calls itself.
+pub const COUNTED: &str =
+    "var n 8\nr func()\nb1:\nv1 = InitMem <mem>\nv2 = SB <uintptr>\nv3 = Addr <ptr> {n} v2\nv4 = Load <int> v3 v1\nv5 = Const64 <int> [1]\nv6 = Add64 <int> v4 v5\nv7 = Store <mem> {int} v3 v6 v1\nv8 = StaticLECall <mem> {r} v7\nv9 = SelectN <mem> [0] v8\nv10 = MakeResult <mem> v9\nRet v10\n";
+
+/// Two functions of an op without code for riscv64.
+pub const ZEROS: &str =
+    "d func(a int32) int32\nb1:\nv1 = InitMem <mem>\nv2 = Arg <int32> {a}\nv3 = Ctz32 <int32> v2\nv4 = MakeResult <int32,mem> v3 v1\nRet v4\ne func(a int32) int32\nb1:\nv1 = InitMem <mem>\nv2 = Arg <int32> {a}\nv3 = Ctz32 <int32> v2\nv4 = MakeResult <int32,mem> v3 v1\nRet v4\n";

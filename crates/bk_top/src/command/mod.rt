@@ -1,8 +1,8 @@
 //! The rows of words.
 
-ghost use Rattle.std.specs.Prelude.{◌≡◌, ◌↔◌, ◌≤◌, ℕ, ◌∷◌, codes, map, string_bytes, IfSome, IfNone, IsTrue};
+ghost use Rattle.std.specs.Prelude.{◌≡◌, ◌↔◌, ◌<◌, ◌≤◌, ℕ, ◌∷◌, codes, length, map, string_bytes, IfSome, IfNone, IsTrue};
 ghost use Rattle.std.specs.Fmt.{decimal};
-ghost use Rattle.bk_top.specs.Commands.{CommandRecord, seen, target_word, Asks};
+ghost use Rattle.bk_top.specs.Commands.{CommandRecord, compile_row, seen, target_word, HasCode, Asks};
 
 pub mod call;
 pub mod number;
@@ -14,6 +14,8 @@ use bk_ops::Target;
 /// What the words ask for.
 #[derive(Clone, Copy)]
 pub enum Command<'a> {
+    /// `compile TARGET WORKERS [RULES]`: the object of the package that is read.
+    Compile(Request<'a>),
     /// `check TARGET`: the counts of the package that is read.
     Check(Target),
     /// `gen N`: the text of a package of N functions that is made by a rule.
@@ -26,8 +28,21 @@ pub enum Command<'a> {
     Rules,
 }
 
+/// What is to be compiled, and how.
+#[derive(Clone, Copy)]
+pub struct Request<'a> {
+    pub target: Target,
+    /// The count of threads that may be used.
+    pub workers: u64,
+    /// The word of the extra rules, which may be missing.
+    pub rules: &'a [String],
+}
+
 /// The most functions of a generated package.
 const MOST_FUNCTIONS: u64 = 4096;
+
+/// The most threads.
+const MOST_WORKERS: u64 = 64;
 
 fn is_text(word: &String, text: &str) -> bool
     ensures { IsTrue result ↔ string_bytes word.now ≡ text.now }
@@ -48,6 +63,30 @@ fn target_of(word: &String) -> Option<Target>
     }
 }
 
+/// The target that a word names, if there is code for it.
+fn compiled_target_of(word: &String) -> Option<Target>
+    ensures found { IfSome result (λ target. (string_bytes word.now ≡ target_word target) × HasCode target) }
+    ensures none { IfNone result ((target : Target) → string_bytes word.now ≡ target_word target → HasCode target → ⊥) }
+{
+    match target_of(word)? {
+        Target::Riscv64 => Some(Target::Riscv64),
+        Target::Arm => None,
+    }
+}
+
+/// The count of threads that a word spells, 1 to 64.
+fn workers_of(word: &String) -> Option<u64>
+    ensures found { IfSome result (λ n. (string_bytes word.now ≡ decimal n) × (1 ≤ n) × (n ≤ 64)) }
+    ensures none { IfNone result ((n : ℕ) → string_bytes word.now ≡ decimal n → 1 ≤ n → n ≤ 64 → ⊥) }
+{
+    let count = number_of(word)?;
+    if 1 <= count && count <= MOST_WORKERS {
+        Some(count)
+    } else {
+        None
+    }
+}
+
 /// The count of functions that a word spells, 1 to 4,096.
 fn count_of(word: &String) -> Option<u64>
     ensures found { IfSome result (λ n. (string_bytes word.now ≡ decimal n) × (1 ≤ n) × (n ≤ 4096)) }
@@ -59,6 +98,34 @@ fn count_of(word: &String) -> Option<u64>
     } else {
         None
     }
+}
+
+fn compile(others: &[String]) -> Option<Command<'_>>
+    ensures found { IfSome result (λ c. Asks (codes "compile" ∷ map string_bytes others.now) (seen c)) }
+    ensures none { IfNone result ((c : CommandRecord) → Asks (codes "compile" ∷ map string_bytes others.now) c → ⊥) }
+{
+    match others {
+        [target, workers, rules @ ..] => {
+            let target = compiled_target_of(target)?;
+            let workers = workers_of(workers)?;
+            request_of(target, workers, rules)
+        }
+        _ => None,
+    }
+}
+
+fn request_of(target: Target, workers: u64, rules: &[String]) -> Option<Command<'_>>
+    ensures found { IfSome result (λ c. (seen c ≡ compile_row (record { target = target; workers = workers; rules = map string_bytes rules.now })) × (length rules.now ≤ 1)) }
+    ensures none { IfNone result (1 < length rules.now) }
+{
+    if rules.len() > 1 {
+        return None;
+    }
+    Some(Command::Compile(Request {
+        target,
+        workers,
+        rules,
+    }))
 }
 
 fn check(others: &[String]) -> Option<Command<'_>>
@@ -113,7 +180,9 @@ pub fn command_of(words: &[String]) -> Option<Command<'_>>
     ensures none { IfNone result ((c : CommandRecord) → Asks (map string_bytes words.now) c → ⊥) }
 {
     let (name, others) = words.split_first()?;
-    if is_text(name, "check") {
+    if is_text(name, "compile") {
+        compile(others)
+    } else if is_text(name, "check") {
         check(others)
     } else if is_text(name, "gen") {
         generate(others)

@@ -1,6 +1,6 @@
 //! `check TARGET`.
 
-ghost use Rattle.std.specs.Prelude.{◌≡◌, IfOk, IfErr, string_bytes, sum_by};
+ghost use Rattle.std.specs.Prelude.{◌≡◌, [], IfOk, IfErr, string_bytes, sum_by};
 ghost use Rattle.bk_top.specs.Commands.{check_row};
 ghost use Rattle.bk_top.specs.Answer.{counts, Checks, Spoils};
 
@@ -33,7 +33,7 @@ fn counts_line(alloc: Global, pkg: &Package) -> Result<String, AllocError>
 /// The counts of the package that the text spells.
 pub fn check(alloc: Global, text: &[u8], target: Target) -> Result<Vec<u8>, Refusal>
     ensures made { IfOk result (λ bytes. Checks target text.now bytes.items) }
-    ensures cause { IfErr result (Spoils (check_row target) text.now) }
+    ensures cause { IfErr result (Spoils (check_row target) [] text.now) }
 {
     let package = package_of(alloc, text, target)?;
     match counts_line(alloc, &package) {

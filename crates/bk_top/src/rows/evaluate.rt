@@ -1,24 +1,27 @@
 //! `eval TARGET NAME BOUND ARG..`.
 
-ghost use Rattle.std.specs.Prelude.{◌≡◌, ◌++◌, ◌^◌, ◌<◌, ℕ, None, Some, true, slice_get, map, string_bytes, IfOk, IfErr, OnOk};
+ghost use Rattle.std.specs.Prelude.{◌≡◌, ◌++◌, ◌^◌, ◌<◌, ℕ, [], None, Some, true, slice_get, map, string_bytes, IfOk, IfErr, OnOk};
 ghost use Rattle.bk_mean.specs.Eval.{function_named, is_name, fit_at, AreFormed};
 ghost use Rattle.bk_mean.specs.Seen.{seen_outcome as meant};
-ghost use Rattle.bk_top.specs.Commands.{evaluate_row, seen_call};
+ghost use Rattle.bk_work.specs.Package.{AreFrames};
+ghost use Rattle.bk_top.specs.Commands.{HasCode, evaluate_row, seen_call};
 ghost use Rattle.bk_top.specs.Outcomes.{seen_outcome};
-ghost use Rattle.bk_top.specs.Evaluating.{rounded, filled, window_of, told_outcome, told, ending, line_of, Evaluates};
-ghost use Rattle.bk_top.specs.Answer.{Spoils};
+ghost use Rattle.bk_top.specs.Evaluating.{rounded, filled, window_of, told_outcome, told, ending, line_of, HaveFrames, Evaluates};
+ghost use Rattle.bk_top.specs.Answer.{IsFrameRefusal, Spoils};
 
 use crate::command::call::Call;
 use crate::refusal::Refusal;
 use crate::rows::call::{numbers_for, own_stack};
 use crate::rows::input::package_of;
 use crate::rows::outcome::{Outcome, outcome_line};
+use crate::rows::refused::named;
 use bk_func::{Func, Memory, Package, Sig, Var};
 use bk_mean::{EvalError, eval};
 use bk_ops::Target;
+use bk_work::{PackageError, frames_of};
 use std::alloc::{AllocError, Global};
 
-/// The bytes of each function's frame.
+/// The bytes of each function's frame on a target without code.
 const FRAME: u32 = 16;
 
 /// The place of the first function with a name.
@@ -80,24 +83,56 @@ fn outcome_of(end: bk_mean::Outcome) -> Outcome
     }
 }
 
+/// The bytes of each function's frame in its code.
+fn frames(alloc: Global, pkg: &Package, target: Target) -> Result<Vec<u32>, Refusal>
+    ensures frames { IfOk result (λ frames. HaveFrames target pkg.now frames.items) }
+    ensures cause { IfErr result (IsFrameRefusal pkg.now target) }
+{
+    match target {
+        Target::Arm => Ok(vec![in alloc; FRAME; pkg.funcs.len()]?),
+        Target::Riscv64 => code_frames(alloc, pkg, target),
+    }
+}
+
+fn code_frames(alloc: Global, pkg: &Package, target: Target) -> Result<Vec<u32>, Refusal>
+    requires { HasCode target }
+    ensures frames { IfOk result (λ frames. AreFrames pkg.now target frames.items) }
+    ensures cause { IfErr result (IsFrameRefusal pkg.now target) }
+{
+    match frames_of(alloc, pkg, target) {
+        Ok(frames) => Ok(frames),
+        Err(PackageError::Functions(refusals)) => {
+            Err(Refusal::Functions(named(alloc, pkg, &refusals)?))
+        }
+        Err(PackageError::Memory) => Err(Refusal::Memory),
+        Err(PackageError::Text(_)) => unreachable!(),
+    }
+}
+
+/// A function by its name, the numbers of its arguments, a bound on its run, and the bytes of each function's frame.
+#[derive(Clone, Copy)]
+struct Run<'a> {
+    name: &'a str,
+    args: &'a [u64],
+    bound: u64,
+    frames: &'a [u32],
+}
+
 /// How a call ends of a function that is there, with arguments that fit it, and the data window then.
 fn end_of(
     alloc: Global,
     pkg: &Package,
     target: Target,
-    name: &str,
-    args: &[u64],
-    bound: u64,
+    run: Run<'_>,
 ) -> Result<(Outcome, Vec<u8>), Memory>
-    requires there { function_named pkg.now name.now ≡ None → ⊥ }
-    requires fit { fit_at pkg.now target (function_named pkg.now name.now) args.now ≡ true }
-    ensures { IfOk result (λ end. (place : ℕ) → function_named pkg.now name.now ≡ Some place → AreFormed pkg.now → (seen_outcome end.0, end.1.items) ≡ told (ending pkg.now target place args.now bound)) }
+    requires there { function_named pkg.now run.name.now ≡ None → ⊥ }
+    requires fit { fit_at pkg.now target (function_named pkg.now run.name.now) run.args.now ≡ true }
+    ensures { IfOk result (λ end. (place : ℕ) → function_named pkg.now run.entry.name.now ≡ Some place → AreFormed pkg.now → (seen_outcome end.0, end.1.items) ≡ told (ending pkg.now target run.entry.frames.now place run.entry.args.now run.entry.bound)) }
 {
     let window = window_of(alloc, &pkg.vars)?;
-    let frames = vec![in alloc; FRAME; pkg.funcs.len()]?;
     let stack = own_stack();
     match eval(
-        alloc, pkg, target, &frames, name, args, &window, stack, bound,
+        alloc, pkg, target, run.frames, run.name, run.args, &window, stack, run.bound,
     ) {
         Ok((end, window)) => Ok((outcome_of(end), window)),
         Err(EvalError::Memory) => Err(Memory),
@@ -111,15 +146,13 @@ fn line(
     pkg: &Package,
     target: Target,
     sig: &Sig,
-    name: &str,
-    args: &[u64],
-    bound: u64,
+    run: Run<'_>,
 ) -> Result<String, Memory>
-    requires there { function_named pkg.now name.now ≡ None → ⊥ }
-    requires fit { fit_at pkg.now target (function_named pkg.now name.now) args.now ≡ true }
-    ensures { IfOk result (λ line. (place : ℕ) → function_named pkg.now name.now ≡ Some place → AreFormed pkg.now → string_bytes line ≡ line_of target sig.now (told (ending pkg.now target place args.now bound))) }
+    requires there { function_named pkg.now run.name.now ≡ None → ⊥ }
+    requires fit { fit_at pkg.now target (function_named pkg.now run.name.now) run.args.now ≡ true }
+    ensures { IfOk result (λ line. (place : ℕ) → function_named pkg.now run.entry.name.now ≡ Some place → AreFormed pkg.now → string_bytes line ≡ line_of target sig.now (told (ending pkg.now target run.entry.frames.now place run.entry.args.now run.entry.bound))) }
 {
-    let (outcome, window) = end_of(alloc, pkg, target, name, args, bound)?;
+    let (outcome, window) = end_of(alloc, pkg, target, run)?;
     Ok(outcome_line(alloc, target, &sig.results, &outcome, &window)?)
 }
 
@@ -131,9 +164,10 @@ pub fn evaluate(
     call: Call<'_>,
 ) -> Result<Vec<u8>, Refusal>
     ensures made { IfOk result (λ bytes. Evaluates target (seen_call call.entry) text.now bytes.items) }
-    ensures cause { IfErr result (Spoils (evaluate_row target (seen_call call.entry)) text.now) }
+    ensures cause { IfErr result (Spoils (evaluate_row target (seen_call call.entry)) [] text.now) }
 {
     let pkg = package_of(alloc, text, target)?;
+    let frames = frames(alloc, &pkg, target)?;
     let name = call.name.as_str();
     let Some(place) = place_of(&pkg, name) else {
         return Err(Refusal::Function);
@@ -144,7 +178,13 @@ pub fn evaluate(
         Ok(None) => return Err(Refusal::Arguments),
         Err(_) => return Err(Refusal::Memory),
     };
-    match line(alloc, &pkg, target, sig, name, &args, call.bound) {
+    let run = Run {
+        name,
+        args: &args,
+        bound: call.bound,
+        frames: &frames,
+    };
+    match line(alloc, &pkg, target, sig, run) {
         Ok(line) => Ok(line.into_bytes()),
         Err(_) => Err(Refusal::Memory),
     }

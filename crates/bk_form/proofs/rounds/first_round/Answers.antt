@@ -1,21 +1,9 @@
 use Rattle.std.proofs.Common.{◌∙◌, sym, ap}
 use Rattle.bk_func.specs.Records.{BlockRecord, ValueRecord}
 use Rattle.bk_func.specs.Form.Before.{Precedes}
-use Rattle.bk_form.specs.Names.{measure}
-use Rattle.bk_form.proofs.Copied.{values_named}
 use Rattle.bk_form.proofs.Finding.{holds_more, holds_in, found, not_found}
 use Rattle.bk_form.proofs.Flowing.{item_in}
-use Rattle.bk_form.proofs.Rounding.{no_round}
 use Rattle.bk_form.proofs.rounds.first_round.Goals as goal
-
-pub returns-then-is_free : goal.returns-then-is_free
-returns-then-is_free c = λ b hb.
-    let f = c.args.flow.now.scope.func.now in
-    record {
-      block = tt;
-      value = λ v hv. no_round f (values_named (measure c.args.flow.now.scope) f c.requires.flow.named) c.args.edges.now c.requires.order _ (c.rises-is_free.ensures c.if-is_free.true) b v
-          (hb, hv);
-    }
 
 pub round_in-requires-clause-block : goal.round_in-requires-clause-block
 round_in-requires-clause-block c =

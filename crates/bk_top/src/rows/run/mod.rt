@@ -1,6 +1,6 @@
 //! `run NAME BOUND ARG..`.
 
-ghost use Rattle.std.specs.Prelude.{◌≡◌, ◌≤◌, true, false, string_bytes, Ok, IfOk, IfErr, IsSomeAnd};
+ghost use Rattle.std.specs.Prelude.{◌≡◌, ◌≤◌, [], true, false, string_bytes, Ok, IfOk, IfErr, IsSomeAnd};
 ghost use Rattle.bk_func.specs.Arguments.{fit};
 ghost use Rattle.bk_elf.specs.Object.{IsObject};
 ghost use Rattle.bk_elf.specs.Loading.{loaded};
@@ -67,7 +67,7 @@ fn line(
 /// The line that tells how a call of a function of the object ends.
 pub fn run(alloc: Global, object: &[u8], call: Call<'_>) -> Result<Vec<u8>, Refusal>
     ensures made { IfOk result (λ bytes. Runs (seen_call call.entry) object.now bytes.items) }
-    ensures cause { IfErr result (Spoils (run_row (seen_call call.entry)) object.now) }
+    ensures cause { IfErr result (Spoils (run_row (seen_call call.entry)) [] object.now) }
 {
     let image = image_of(alloc, object)?;
     let name = call.name.as_str();

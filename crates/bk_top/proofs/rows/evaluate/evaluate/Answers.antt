@@ -38,6 +38,8 @@ returns-in-Ok-clause-made c =
     record {
       pkg = pkg;
       reads = c.in_ok-pkg.ensures.read;
+      frames = c.in_ok-frames.frames.items;
+      framed = c.in_ok-frames.ensures.frames;
       place = place;
       func = func;
       named = sym (c.in-Some.ensures ∙ ap (function_named pkg) c.as_str-name.ensures.value);
@@ -47,6 +49,7 @@ returns-in-Ok-clause-made c =
       tells =
           ap (λ v. v.items) c.into_bytes.ensures.value
           ∙ c.in-Ok.ensures place (sym c.in-Some.ensures) (read_formed c.args.text.now c.args.target pkg c.in_ok-pkg.ensures.read)
-          ∙ ap (λ (f : FuncRecord). line_of c.args.target f.sig (told (ending pkg c.args.target place c.deref-2.result.now c.args.call.bound))) c.behind-pkg.view_is
-          ∙ ap (λ ns. line_of c.args.target func.sig (told (ending pkg c.args.target place ns c.args.call.bound))) c.deref-2.ensures.value;
+          ∙ ap (λ (f : FuncRecord). line_of c.args.target f.sig (told (ending pkg c.args.target c.deref-3.result.now place c.deref-2.result.now c.args.call.bound))) c.behind-pkg.view_is
+          ∙ ap (λ fs. line_of c.args.target func.sig (told (ending pkg c.args.target fs place c.deref-2.result.now c.args.call.bound))) c.deref-3.ensures.value
+          ∙ ap (λ ns. line_of c.args.target func.sig (told (ending pkg c.args.target c.in_ok-frames.frames.items place ns c.args.call.bound))) c.deref-2.ensures.value;
     }

@@ -1,0 +1,9 @@
+pub mod Apart
+pub mod Before
+pub mod Ending
+pub mod Firsts
+pub mod Gathered
+pub mod Growing
+pub mod Laying
+pub mod Loops
+pub mod Outward

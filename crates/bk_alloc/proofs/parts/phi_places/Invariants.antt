@@ -1,0 +1,7 @@
+-- the places of the first so many are known
+use Rattle.std.proofs.Common.{take}
+use Rattle.bk_alloc.specs.Places.{AreFirst}
+use Rattle.bk_alloc.proofs.parts.phi_places.Given as goal
+
+abbrev pub invariant-loop-place : goal.invariant-loop-place
+invariant-loop-place l = AreFirst (λ p. p.value) (take l.place l.phis) l.places

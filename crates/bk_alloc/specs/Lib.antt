@@ -1,0 +1,12 @@
+pub mod Ahead
+pub mod Blocks
+pub mod Homes
+pub mod Names
+pub mod Outgoing
+pub mod Placement
+pub mod Places
+pub mod Placing
+pub mod Plans
+pub mod Registers
+pub mod Seen
+pub mod Tasks

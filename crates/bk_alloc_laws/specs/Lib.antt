@@ -1,0 +1,4 @@
+pub mod Edge
+pub mod Holding
+pub mod Mirror
+pub mod Whole

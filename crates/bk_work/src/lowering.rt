@@ -1,0 +1,128 @@
+// A function from SSA form to the target's ops on words.
+ghost use Rattle.std.specs.Prelude.{◌≡◌, ℕ, Some, true, slice_get, IfErr, IfOk, OnOk};
+ghost use Rattle.bk_calls.specs.Budget.{is_grown};
+ghost use Rattle.bk_func.specs.Records.{FuncRecord};
+ghost use Rattle.bk_rewrite.specs.Passes.{Settles};
+ghost use Rattle.bk_rewrite.specs.Places.{HasNumbers, HasRoom};
+ghost use Rattle.bk_work.specs.Lowered.{IsCleaned, IsCoded, IsInWords, IsLowered, IsSettled, pass_limit};
+ghost use Rattle.bk_work.specs.Refused.{IsRefused, IsUnframed, IsUnsettled, LacksCode, grown};
+ghost use Rattle.bk_work.specs.Rules.{rules_of};
+ghost use Rattle.bk_work.specs.Stops.{IfRefused};
+
+use crate::numbers::{has_numbers, has_room};
+use crate::refusals::{Cause, Stop};
+use crate::rules::Rules;
+use bk_calls::word_areas;
+use bk_func::{Func, Memory, Package, copy_func, first_construct};
+use bk_graph::clean;
+use bk_ops::Target;
+use bk_rewrite::rewrite;
+use bk_rule::Rule;
+use std::alloc::Global;
+
+/// The function at a place of the package with the target's ops alone, its arguments, calls and results in words; or why
+/// it has no such form.
+///
+/// A place at which there is none is answered as want of memory.
+pub fn compile_one(
+    alloc: Global,
+    pkg: &Package,
+    target: Target,
+    extra: &[Rule],
+    func: u32,
+) -> Result<Result<Func, Cause>, Memory>
+    ensures lowered { (f : FuncRecord) → slice_get pkg.now.funcs func ≡ Some f → IfOk result (λ made. IfOk made (IsLowered pkg.now target (rules_of target extra.now) f)) }
+    ensures cause { (f : FuncRecord) → slice_get pkg.now.funcs func ≡ Some f → IfOk result (λ made. IfErr made (IsRefused pkg.now target (rules_of target extra.now) f)) }
+    ensures unframed { IfOk result (λ made. IfErr made IsUnframed) }
+{
+    let rules = Rules::new(alloc, target, extra)?;
+    let Some(func) = pkg.funcs.get(func as usize) else {
+        return Err(Memory);
+    };
+    match lowered(alloc, pkg, target, &rules, func) {
+        Ok(func) => Ok(Ok(func)),
+        Err(Stop::Refused(cause)) => Ok(Err(cause)),
+        Err(Stop::Memory) => Err(Memory),
+    }
+}
+
+/// The lowered function: the steps in their order.
+pub(crate) fn lowered(
+    alloc: Global,
+    pkg: &Package,
+    target: Target,
+    rules: &Rules,
+    func: &Func,
+) -> Result<Func, Stop>
+    ensures lowered { IfOk result (IsLowered pkg.now target rules.now func.now) }
+    ensures cause { IfErr result (λ stop. IfRefused stop (λ cause. IsRefused pkg.now target rules.now func.now cause × IsUnframed cause)) }
+{
+    // Dead values go before all, so that one that the target has no code for refuses nothing.
+    let live = coded(alloc, func, target)?;
+    // Rules that hold on every target take values as wide as their types, so they come before words, which may be wider.
+    let generic = settled(alloc, live, &rules.generic, target)?;
+    // Calls take and give words before the target's rules, which know words alone.
+    let words = in_words(alloc, pkg, generic, target)?;
+    // Last, since nothing else knows the target's own ops.
+    settled(alloc, words, &rules.machine, target)
+}
+
+/// The function without what is dead, where the target has code for each value that is left.
+fn coded(alloc: Global, func: &Func, target: Target) -> Result<Func, Stop>
+    ensures coded { IfOk result (IsCoded target func.now) }
+    ensures cause { IfErr result (λ stop. IfRefused stop (λ cause. (value : ℕ) × LacksCode target func.now value × (cause ≡ Cause.Construct value))) }
+{
+    let live = cleaned(alloc, copy_func(alloc, func)?)?;
+    match first_construct(&live, target) {
+        None => Ok(live),
+        Some(value) => Err(Stop::Refused(Cause::Construct(value))),
+    }
+}
+
+/// The function rewritten until no rule matches, without what this made dead.
+fn settled(alloc: Global, func: Func, rules: &[Rule], target: Target) -> Result<Func, Stop>
+    ensures settled { IfOk result (IsSettled target rules.now func) }
+    ensures cause { IfErr result (λ stop. IfRefused stop (IsUnsettled target rules.now func)) }
+{
+    let last = rewritten(alloc, func, rules, target)?;
+    Ok(cleaned(alloc, last)?)
+}
+
+fn cleaned(alloc: Global, func: Func) -> Result<Func, Memory>
+    ensures { IfOk result (IsCleaned func) }
+{
+    let mut func = func;
+    clean(alloc, &mut func)?;
+    Ok(func)
+}
+
+fn rewritten(alloc: Global, func: Func, rules: &[Rule], target: Target) -> Result<Func, Stop>
+    ensures settled { IfOk result (Settles target rules.now (pass_limit func) func) }
+    ensures cause { IfErr result (λ stop. IfRefused stop (IsUnsettled target rules.now func)) }
+{
+    ask_numbers(alloc, &func)?;
+    Ok(rewrite(alloc, func, rules, target)?)
+}
+
+/// A text has no number twice and none above 2,147,483,647, and a step gives at most 32,768 values the numbers after the
+/// greatest.
+fn ask_numbers(alloc: Global, func: &Func) -> Result<(), Memory>
+    ensures numbers { OnOk result (HasNumbers func.now) }
+    ensures room { OnOk result (HasRoom func.now) }
+{
+    let are_own = has_numbers(alloc, func)?;
+    if are_own && has_room(func) {
+        Ok(())
+    } else {
+        Err(Memory)
+    }
+}
+
+fn in_words(alloc: Global, pkg: &Package, func: Func, target: Target) -> Result<Func, Stop>
+    ensures words { IfOk result (IsInWords pkg.now target func) }
+    ensures cause { IfErr result (λ stop. IfRefused stop (λ cause. (is_grown target func ≡ true) × (cause ≡ grown))) }
+{
+    let mut func = func;
+    word_areas(alloc, &mut func, pkg, target)?;
+    Ok(func)
+}

@@ -1,0 +1,64 @@
+// The rules of the two rewritings.
+ghost use Rattle.std.specs.Prelude.{◌≡◌, ◌++◌, IfOk};
+ghost use Rattle.bk_rules_generic.specs.Lines.{generic_list};
+ghost use Rattle.bk_work.specs.Rules.{machine_rules, rules_of};
+
+use bk_func::Memory;
+use bk_ops::Target;
+use bk_rule::{Rule, copy_rules};
+use bk_rules_generic::generic_rules;
+use bk_rules_rv::rv_rules;
+use std::alloc::Global;
+use std::marker::Model;
+
+/// The rules of the two rewritings, made once for all functions of a package.
+#[derive(Drop)]
+pub(crate) struct Rules {
+    /// Those that hold on every target, and behind them the extra ones.
+    pub(crate) generic: Vec<Rule>,
+    /// Those that give the target's own ops.
+    pub(crate) machine: Vec<Rule>,
+}
+
+impl Model for Rules {
+    ghost use Rattle.std.specs.Coded.{codes};
+    ghost use Rattle.bk_rule.specs.contracts.trees.Build as build;
+    ghost use Rattle.bk_rule.specs.contracts.trees.Expr as expr;
+    ghost use Rattle.bk_rule.specs.contracts.trees.Pattern as pattern;
+    ghost use Rattle.bk_work.specs.Rules.{RulesRecord};
+
+    ghost Value = { RulesRecord };
+
+    ghost coded = { Prim.hlevel (codes, pattern.the_row.coded, expr.the_row.coded, build.the_row.coded) };
+
+    ghost view = { λ it. record { generic = it.generic.items; machine = it.machine.items } };
+}
+
+impl Rules {
+    pub(crate) fn new(alloc: Global, target: Target, extra: &[Rule]) -> Result<Rules, Memory>
+        ensures { IfOk result (λ rules. rules ≡ rules_of target extra.now) }
+    {
+        Ok(Rules {
+            generic: with_extra(alloc, extra)?,
+            machine: machine_rules(alloc, target)?,
+        })
+    }
+}
+
+fn with_extra(alloc: Global, extra: &[Rule]) -> Result<Vec<Rule>, Memory>
+    ensures { IfOk result (λ rules. rules.items ≡ generic_list ++ extra.now) }
+{
+    let mut rules = generic_rules(alloc)?;
+    let mut more = copy_rules(alloc, extra)?;
+    rules.append(&mut more)?;
+    Ok(rules)
+}
+
+fn machine_rules(alloc: Global, target: Target) -> Result<Vec<Rule>, Memory>
+    ensures { IfOk result (λ rules. rules.items ≡ machine_rules target) }
+{
+    match target {
+        Target::Arm => Ok(Vec::new(alloc)),
+        Target::Riscv64 => rv_rules(alloc),
+    }
+}
