@@ -18,6 +18,8 @@ mod live;
 #[cfg(test)]
 mod rewrite;
 #[cfg(test)]
+mod rules_arm;
+#[cfg(test)]
 mod rules_dec64;
 #[cfg(test)]
 mod rules_rv;

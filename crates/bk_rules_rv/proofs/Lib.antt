@@ -1,6 +1,5 @@
 pub mod Bits
-pub mod Extended
-pub mod LowBits
+pub mod NoWider
 pub mod Products
 pub mod SoundAccesses
 pub mod SoundArithmetic

@@ -3,7 +3,6 @@ use Rattle.std.proofs.Common.{◌≡◌, ℕ, zero, suc, ◌+◌, ◌-◌, ◌*�
 use Rattle.std.specs.Int.{int_div_euclid}
 use Rattle.std.specs.Int.Bits.{or_self}
 use Rattle.std.proofs.lemmas.Bool.{cases_lt, lt-ltb, ltb-true}
-use Rattle.std.proofs.lemmas.Bool.Decides.{nat_tests}
 use Rattle.std.proofs.lemmas.Int.{fits_signed_mul}
 use Rattle.std.proofs.lemmas.Nat.{pow_pos, mod_below, and_mask, or_shifted, div_below, div-mul-add, mod-mul-add, mul-le}
 use Rattle.std.proofs.Math.Nat.{mod-eq_of_lt, mod-mod, div-add-mod', mul-div_cancel, mul-lt-mul_of_pos_right}
@@ -14,8 +13,8 @@ use Rattle.bk_ops.specs.Arithmetic.{as_bit, sign_mask, zero_mask}
 use Rattle.bk_ops.proofs.Cut.{residue_again}
 use Rattle.bk_ops.proofs.LowBits.{residue-mul}
 use Rattle.bk_ops.proofs.Order.{signed_low, signed_high}
-use Rattle.bk_rules_rv.proofs.LowBits.{low, low_constant, low_neg, low_or}
-use Rattle.bk_rules_rv.proofs.Extended.{zeros, signs, left_low}
+use Rattle.bk_rules_words.proofs.LowBits.{low, low_constant, low_neg, low_or, low_left}
+use Rattle.bk_rules_words.proofs.Extended.{zeros, signs, sign_alone}
 
 -- ---- products
 size : (w : ℕ) (z : ℤ) → IsTrue (fits_signed w z) → unsigned_abs z ≤ 2 ^ (w - 1)
@@ -41,7 +40,7 @@ high_signs x y a b p n f g r q =
     r ∙ (mod-mod (a % 2 ^ 64 * (b % 2 ^ 64)) (2 ^ 64) ∙
     (ap (λ k. k * (b % 2 ^ 64) % 2 ^ 64) (f ∙ residue_again 64 sx) ∙ (ap (λ k. residue 64 sx * k % 2 ^ 64) (g ∙ residue_again 64 sy) ∙ sym (residue-mul 64 sx sy)))) in
     let s : signed 64 (p % 2 ^ 64) ≡ sx *ℤ sy = ap (signed 64) m ∙ signed_residue 64 (sx *ℤ sy) (omega arith) (product_fits (x % 2 ^ 32) (y % 2 ^ 32)) in
-    low_constant 32 (int_div_euclid (sx *ℤ sy) (pos (2 ^ 32))) n (omega arith) (q ∙ ap (λ (z : ℤ). residue 64 (int_div_euclid z (pos (2 ^ 32))) % 2 ^ 64) s)
+    low_constant 32 64 (int_div_euclid (sx *ℤ sy) (pos (2 ^ 32))) n (omega arith) (q ∙ ap (λ (z : ℤ). residue 64 (int_div_euclid z (pos (2 ^ 32))) % 2 ^ 64) s)
 
 small_product : (x y : ℕ) → x < 2 ^ 32 → y < 2 ^ 32 → x * y < 2 ^ 64
 small_product x y l m = let b : x * y ≤ 4294967295 * 4294967295 = mul-le x y 4294967295 4294967295 (omega arith) (omega arith) in omega arith
@@ -52,10 +51,10 @@ pub high_zeros : (x y a b p n : ℕ) → a % 2 ^ 64 ≡ x % 2 ^ 32 % 2 ^ 64 → 
 high_zeros x y a b p n f g r q =
     let m : p % 2 ^ 64 ≡ x % 2 ^ 32 * (y % 2 ^ 32) =
     r ∙ (mod-mod (a % 2 ^ 64 * (b % 2 ^ 64)) (2 ^ 64) ∙
-    (ap (λ k. k * (b % 2 ^ 64) % 2 ^ 64) (zeros 32 x a (omega arith) f) ∙
-    (ap (λ k. x % 2 ^ 32 * k % 2 ^ 64) (zeros 32 y b (omega arith) g) ∙
+    (ap (λ k. k * (b % 2 ^ 64) % 2 ^ 64) (zeros 32 64 x a (omega arith) f) ∙
+    (ap (λ k. x % 2 ^ 32 * k % 2 ^ 64) (zeros 32 64 y b (omega arith) g) ∙
     mod-eq_of_lt (small_product (x % 2 ^ 32) (y % 2 ^ 32) (mod_below x (2 ^ 32) (pow_pos 32)) (mod_below y (2 ^ 32) (pow_pos 32)))))) in
-    low 32 n _ (omega arith) q ∙
+    low 32 64 n _ (omega arith) q ∙
     (ap (λ k. k / 2 ^ 32 % 2 ^ 32) m ∙
     (ap (λ k. k * (y % 2 ^ 32) / 2 ^ 32 % 2 ^ 32) (sym (mod-mod x (2 ^ 32))) ∙ ap (λ k. x % 2 ^ 32 % 2 ^ 32 * k / 2 ^ 32 % 2 ^ 32) (sym (mod-mod y (2 ^ 32)))))
 
@@ -122,7 +121,7 @@ pub extend_signs : (w v x z n : ℕ) → 1 ≤ w → w ≤ 64 → v ≤ 64 → z
     n % 2 ^ v ≡ residue v (signed w (x % 2 ^ w)) % 2 ^ v
 extend_signs w v x z n l h g p q =
     let r : z % 2 ^ 64 ≡ x % 2 ^ w * 2 ^ (64 - w) = raised w x z h (p ∙ ap (λ k. x % 2 ^ 64 * 2 ^ k % 2 ^ 64 % 2 ^ 64) (count_is w)) in
-    low_constant v (signed w (x % 2 ^ w)) n g
+    low_constant v 64 (signed w (x % 2 ^ w)) n g
     (q ∙ (ap (λ k. residue 64 (int_div_euclid (signed 64 (z % 2 ^ 64)) (pos (2 ^ k))) % 2 ^ 64) (count_is w) ∙
     (ap (λ k. residue 64 (int_div_euclid (signed 64 k) (pos (2 ^ (64 - w)))) % 2 ^ 64) r ∙
     ap (λ (y : ℤ). residue 64 y % 2 ^ 64) (lowered w (x % 2 ^ w) l h (mod_below x (2 ^ w) (pow_pos w))))))
@@ -131,31 +130,17 @@ pub extend_zeros : (w v x z n : ℕ) → w ≤ 64 → v ≤ 64 → z % 2 ^ 64 �
     n % 2 ^ 64 ≡ z % 2 ^ 64 / 2 ^ ((64 - w) % 2 ^ 64) % 2 ^ 64 → n % 2 ^ v ≡ x % 2 ^ w % 2 ^ v
 extend_zeros w v x z n h g p q =
     let r : z % 2 ^ 64 ≡ x % 2 ^ w * 2 ^ (64 - w) = raised w x z h (p ∙ ap (λ k. x % 2 ^ 64 * 2 ^ k % 2 ^ 64 % 2 ^ 64) (count_is w)) in
-    low v n (x % 2 ^ w) g
+    low v 64 n (x % 2 ^ w) g
     (q ∙ (ap (λ k. z % 2 ^ 64 / 2 ^ k % 2 ^ 64) (count_is w) ∙
     (ap (λ k. k / 2 ^ (64 - w) % 2 ^ 64) r ∙ ap (λ k. k % 2 ^ 64) (mul-div_cancel (x % 2 ^ w) (pow_pos (64 - w))))))
 
-pub cut_twice : (w v x : ℕ) → v ≤ w → x % 2 ^ v ≡ x % 2 ^ w % 2 ^ v % 2 ^ v
-cut_twice w v x h = sym (mod_mod x v w h) ∙ sym (mod-mod (x % 2 ^ w) (2 ^ v))
-
 -- ---- masks
-sign_law : (x : ℕ) → x < 2 ^ 32 → residue 32 (int_div_euclid (signed 32 x) (pos (2 ^ 63))) ≡ sign_mask 32 x
-sign_law x l =
-    elim (cases_lt x 2147483648) [
-      | inl i ↦
-          (let z : x / 9223372036854775808 % 4294967296 ≡ 0 = omega arith in
-          ap (λ (y : ℤ). residue 32 (int_div_euclid y (pos (2 ^ 63)))) (signed_low 32 x (omega arith) i) ∙ grind (arith, nat_tests))
-      | inr i ↦
-          (let z : (4294967296 - suc x) / 9223372036854775808 % 4294967296 ≡ 0 = omega arith in
-          ap (λ (y : ℤ). residue 32 (int_div_euclid y (pos (2 ^ 63)))) (signed_high 32 x i l) ∙ grind (arith, nat_tests))
-    ]
-
 pub mask_of_sign : (x a n : ℕ) → a % 2 ^ 64 ≡ residue 64 (signed 32 (x % 2 ^ 32)) % 2 ^ 64 →
     n % 2 ^ 64 ≡ residue 64 (int_div_euclid (signed 64 (a % 2 ^ 64)) (pos (2 ^ 63))) % 2 ^ 64 → n % 2 ^ 32 ≡ sign_mask 32 (x % 2 ^ 32) % 2 ^ 32
 mask_of_sign x a n p q =
-    low_constant 32 (int_div_euclid (signed 32 (x % 2 ^ 32)) (pos (2 ^ 63))) n (omega arith)
-    (q ∙ ap (λ (z : ℤ). residue 64 (int_div_euclid z (pos (2 ^ 63))) % 2 ^ 64) (signs 32 (x % 2 ^ 32) a (omega arith) (omega arith) p)) ∙
-    ap (λ k. k % 2 ^ 32) (sign_law (x % 2 ^ 32) (mod_below x (2 ^ 32) (pow_pos 32)))
+    low_constant 32 64 (int_div_euclid (signed 32 (x % 2 ^ 32)) (pos (2 ^ 63))) n (omega arith)
+    (q ∙ ap (λ (z : ℤ). residue 64 (int_div_euclid z (pos (2 ^ 63))) % 2 ^ 64) (signs 32 64 (x % 2 ^ 32) a (omega arith) (omega arith) p)) ∙
+    ap (λ k. k % 2 ^ 32) (sign_alone 63 (x % 2 ^ 32) (omega arith) (mod_below x (2 ^ 32) (pow_pos 32)))
 
 mask_law : (t : Bool) → (2 ^ 32 - as_bit (not t) % 2 ^ 32) % 2 ^ 32 % 2 ^ 32 ≡ (if t then 0 else 4294967295) % 2 ^ 32
 mask_law true = refl
@@ -164,9 +149,9 @@ mask_law false = refl
 pub mask_of_zero : (x u t n : ℕ) → u % 2 ^ 64 ≡ x % 2 ^ 32 % 2 ^ 64 → t % 2 ^ 64 ≡ as_bit (not (u % 2 ^ 64 == 0)) % 2 ^ 64 →
     n % 2 ^ 64 ≡ (2 ^ 64 - t % 2 ^ 64) % 2 ^ 64 % 2 ^ 64 → n % 2 ^ 32 ≡ zero_mask 32 (x % 2 ^ 32) % 2 ^ 32
 mask_of_zero x u t n p q r =
-    low_neg 32 t n (omega arith) r ∙
+    low_neg 32 64 t n (omega arith) r ∙
     (ap (λ k. (2 ^ 32 - k) % 2 ^ 32 % 2 ^ 32)
-    (low 32 t _ (omega arith) q ∙ ap (λ k. as_bit (not (k == 0)) % 2 ^ 32) (zeros 32 x u (omega arith) p)) ∙
+    (low 32 64 t _ (omega arith) q ∙ ap (λ k. as_bit (not (k == 0)) % 2 ^ 32) (zeros 32 64 x u (omega arith) p)) ∙
     mask_law (x % 2 ^ 32 == 0))
 
 -- ---- a rotation of 32 bits as two shifts
@@ -212,10 +197,10 @@ rotate_law x k u a z m c b n fu fa fz fm fc fb fn =
     let l : x % 2 ^ 32 < 2 ^ 32 = mod_below x (2 ^ 32) (pow_pos 32) in
     let j : k % 2 ^ 64 % 32 < 32 = mod_below (k % 2 ^ 64) 32 (omega arith) in
     let p : a % 2 ^ 32 ≡ x % 2 ^ 32 * 2 ^ (k % 2 ^ 64 % 32) % 2 ^ 32 =
-    left_low 32 x (k % 2 ^ 64 % 32) a (omega arith) (fa ∙ ap (λ i. x % 2 ^ 64 * 2 ^ i % 2 ^ 64 % 2 ^ 64) (count_up k u fu)) ∙ mod-mod (x % 2 ^ 32 * 2 ^ (k % 2 ^ 64 % 32)) (2 ^ 32) in
+    low_left 32 64 x (k % 2 ^ 64 % 32) a (omega arith) (fa ∙ ap (λ i. x % 2 ^ 64 * 2 ^ i % 2 ^ 64 % 2 ^ 64) (count_up k u fu)) ∙ mod-mod (x % 2 ^ 32 * 2 ^ (k % 2 ^ 64 % 32)) (2 ^ 32) in
     let q : b % 2 ^ 32 ≡ x % 2 ^ 32 / 2 ^ (c % 2 ^ 64) =
-    low 32 b _ (omega arith) fb ∙ (ap (λ i. i / 2 ^ (c % 2 ^ 64) % 2 ^ 32) (zeros 32 x z (omega arith) fz) ∙ mod-eq_of_lt (small (x % 2 ^ 32) (c % 2 ^ 64) l)) in
-    low_or 32 a b n (omega arith) fn ∙
+    low 32 64 b _ (omega arith) fb ∙ (ap (λ i. i / 2 ^ (c % 2 ^ 64) % 2 ^ 32) (zeros 32 64 x z (omega arith) fz) ∙ mod-eq_of_lt (small (x % 2 ^ 32) (c % 2 ^ 64) l)) in
+    low_or 32 64 a b n (omega arith) fn ∙
     (ap (λ i. bit_or i (b % 2 ^ 32) % 2 ^ 32) p ∙
     (ap (λ i. bit_or (x % 2 ^ 32 * 2 ^ (k % 2 ^ 64 % 32) % 2 ^ 32) i % 2 ^ 32) q ∙
     (ap (λ i. i % 2 ^ 32) (turned_law (x % 2 ^ 32) (k % 2 ^ 64 % 32) (c % 2 ^ 64) l j (count_down k m c fm fc)) ∙

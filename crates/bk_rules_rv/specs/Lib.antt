@@ -1,3 +1,1 @@
-pub mod Families
 pub mod Lines
-pub mod Nodes

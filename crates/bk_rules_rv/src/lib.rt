@@ -4,18 +4,10 @@
 ghost use Rattle.std.specs.Prelude.{◌≡◌, IfOk};
 ghost use Rattle.std.specs.List.{All};
 ghost use Rattle.bk_ops.specs.declared.types.Target.TheVariants.{Riscv64};
-ghost use Rattle.bk_rules_rv.specs.Lines.{rv_list};
 ghost use Rattle.bk_rule.specs.WordSound.{SoundWordRule};
+ghost use Rattle.bk_rules_rv.specs.Lines.{rv_list};
 
-mod accesses;
-mod conversions;
-mod direct;
-mod families;
-mod immediates;
-mod lines;
 mod list;
-mod trees;
-mod widened;
 
 use bk_rule::{Memory, Rule};
 use std::alloc::{AllocError, Global};

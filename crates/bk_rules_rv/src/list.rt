@@ -1,68 +1,136 @@
 // The list, line by line.
-ghost use Rattle.std.specs.Prelude.{◌≡◌, ◌++◌, map, OnOk};
+ghost use Rattle.std.specs.Prelude.{◌≡◌, ◌++◌, OnOk};
 ghost use Rattle.std.specs.List.{flat_map};
-ghost use Rattle.bk_rules_rv.specs.Lines.{rules_of, arithmetic, shifts, comparisons, conversions, accesses, immediates};
+ghost use Rattle.bk_rules_words.specs.Lines.{rules_of};
+ghost use Rattle.bk_rules_rv.specs.Lines.{arithmetic, shifts, comparisons, conversions, accesses, immediates};
 
-use crate::families::family;
-use crate::lines::{Line, Shape, Widths, pairs};
 use bk_ops::{Family, RvOp};
 use bk_rule::Rule;
+use bk_rules_words::{Fits, Line, Shape, Widths, put};
 use std::alloc::{AllocError, Global};
 
-#[tactic(auto, unfolding(crate::specs::Lines::rules_of))]
-fn put_line(alloc: Global, rules: &mut Vec<Rule>, line: Line) -> Result<(), AllocError>
-    ensures { OnOk result (rules.new.items ≡ rules.old.items ++ rules_of line) }
-{
-    for pair in pairs(line.1) {
-        rules.push(family(alloc, line.0, pair.0, pair.1)?)?;
-    }
-    Ok(())
-}
+// The machine ops of the list.
+const CONST: Family = Family::Rv(RvOp::Const);
 
-fn put(alloc: Global, rules: &mut Vec<Rule>, lines: &[Line]) -> Result<(), AllocError>
-    ensures { OnOk result (rules.new.items ≡ rules.old.items ++ flat_map rules_of lines.now) }
-{
-    for line in lines {
-        put_line(alloc, rules, *line)?;
-    }
-    Ok(())
-}
+const ADDR: Family = Family::Rv(RvOp::Addr);
+
+const ADD: Family = Family::Rv(RvOp::Add);
+
+const SUB: Family = Family::Rv(RvOp::Sub);
+
+const MUL: Family = Family::Rv(RvOp::Mul);
+
+const AND: Family = Family::Rv(RvOp::And);
+
+const OR: Family = Family::Rv(RvOp::Or);
+
+const XOR: Family = Family::Rv(RvOp::Xor);
+
+const NEG: Family = Family::Rv(RvOp::Neg);
+
+const XORI: Family = Family::Rv(RvOp::Xori);
+
+const MULH: Family = Family::Rv(RvOp::Mulh);
+
+const MULHU: Family = Family::Rv(RvOp::Mulhu);
+
+const DIV: Family = Family::Rv(RvOp::Div);
+
+const DIVU: Family = Family::Rv(RvOp::Divu);
+
+const REM: Family = Family::Rv(RvOp::Rem);
+
+const REMU: Family = Family::Rv(RvOp::Remu);
+
+const SRAI: Family = Family::Rv(RvOp::Srai);
+
+const SRLI: Family = Family::Rv(RvOp::Srli);
+
+const LSL: Family = Family::Rv(RvOp::Lsl);
+
+const ASR: Family = Family::Rv(RvOp::Asr);
+
+const LSR: Family = Family::Rv(RvOp::Lsr);
+
+const SEQZ: Family = Family::Rv(RvOp::Seqz);
+
+const SNEZ: Family = Family::Rv(RvOp::Snez);
+
+const SLT: Family = Family::Rv(RvOp::Slt);
+
+const SLTU: Family = Family::Rv(RvOp::Sltu);
+
+const ANDI: Family = Family::Rv(RvOp::Andi);
+
+const ROTL: Family = Family::Rv(RvOp::Rotl);
+
+const SEL: Family = Family::Rv(RvOp::Sel);
+
+const LOAD: Family = Family::Rv(RvOp::Load);
+
+const STORE_B: Family = Family::Rv(RvOp::StoreB);
+
+const STORE: Family = Family::Rv(RvOp::Store);
+
+const ZERO: Family = Family::Rv(RvOp::Zero);
+
+const MOVE: Family = Family::Rv(RvOp::Move);
+
+const NIL: Family = Family::Rv(RvOp::Nil);
+
+const ADDI: Family = Family::Rv(RvOp::Addi);
+
+const ORI: Family = Family::Rv(RvOp::Ori);
+
+const SLLI: Family = Family::Rv(RvOp::Slli);
 
 /// Constants, sums, products and quotients.
 const ARITHMETIC: [Line; 27] = [
-    Line(Shape::Constant(Family::Const), Widths::Each),
-    Line(Shape::Constant(Family::ConstBool), Widths::Alone),
-    Line(Shape::Nil, Widths::Alone),
-    Line(Shape::Address, Widths::Alone),
-    Line(Shape::Two(Family::Add, RvOp::Add), Widths::Each),
-    Line(Shape::Two(Family::Sub, RvOp::Sub), Widths::Each),
-    Line(Shape::Two(Family::Mul, RvOp::Mul), Widths::Each),
-    Line(Shape::Two(Family::And, RvOp::And), Widths::Each),
-    Line(Shape::Two(Family::Or, RvOp::Or), Widths::Each),
-    Line(Shape::Two(Family::Xor, RvOp::Xor), Widths::Each),
-    Line(Shape::One(Family::Neg, RvOp::Neg), Widths::Each),
-    Line(Shape::OneWith(Family::Com, RvOp::Xori, -1), Widths::Each),
-    Line(Shape::Two(Family::AddPtr, RvOp::Add), Widths::Alone),
-    Line(Shape::Two(Family::SubPtr, RvOp::Sub), Widths::Alone),
-    Line(Shape::Offset, Widths::Alone),
-    Line(Shape::Two(Family::Hmul, RvOp::Mulh), Widths::Word),
-    Line(Shape::Two(Family::Hmulu, RvOp::Mulhu), Widths::Word),
-    Line(Shape::Two(Family::Div, RvOp::Div), Widths::Word),
-    Line(Shape::Two(Family::Divu, RvOp::Divu), Widths::Word),
-    Line(Shape::Two(Family::Mod, RvOp::Rem), Widths::Word),
-    Line(Shape::Two(Family::Modu, RvOp::Remu), Widths::Word),
+    Line(Shape::Constant(Family::Const, CONST), Widths::Each),
+    Line(Shape::Constant(Family::ConstBool, CONST), Widths::Alone),
+    Line(Shape::Nil(CONST), Widths::Alone),
+    Line(Shape::Address(ADDR), Widths::Alone),
+    Line(Shape::Two(Family::Add, ADD), Widths::Each),
+    Line(Shape::Two(Family::Sub, SUB), Widths::Each),
+    Line(Shape::Two(Family::Mul, MUL), Widths::Each),
+    Line(Shape::Two(Family::And, AND), Widths::Each),
+    Line(Shape::Two(Family::Or, OR), Widths::Each),
+    Line(Shape::Two(Family::Xor, XOR), Widths::Each),
+    Line(Shape::One(Family::Neg, NEG), Widths::Each),
+    Line(Shape::OneWith(Family::Com, XORI, -1), Widths::Each),
+    Line(Shape::Two(Family::AddPtr, ADD), Widths::Alone),
+    Line(Shape::Two(Family::SubPtr, SUB), Widths::Alone),
+    Line(Shape::Offset(ADD, CONST), Widths::Alone),
+    Line(Shape::Two(Family::Hmul, MULH), Widths::At64),
+    Line(Shape::Two(Family::Hmulu, MULHU), Widths::At64),
+    Line(Shape::Two(Family::Div, DIV), Widths::At64),
+    Line(Shape::Two(Family::Divu, DIVU), Widths::At64),
+    Line(Shape::Two(Family::Mod, REM), Widths::At64),
+    Line(Shape::Two(Family::Modu, REMU), Widths::At64),
     Line(
-        Shape::High(Family::Hmul, Family::SignExt, RvOp::Srai),
+        Shape::High(Family::Hmul, Family::SignExt, SRAI),
         Widths::Alone,
     ),
     Line(
-        Shape::High(Family::Hmulu, Family::ZeroExt, RvOp::Srli),
+        Shape::High(Family::Hmulu, Family::ZeroExt, SRLI),
         Widths::Alone,
     ),
-    Line(Shape::Widen(Family::Div, Family::SignExt), Widths::Narrow),
-    Line(Shape::Widen(Family::Mod, Family::SignExt), Widths::Narrow),
-    Line(Shape::Widen(Family::Divu, Family::ZeroExt), Widths::Narrow),
-    Line(Shape::Widen(Family::Modu, Family::ZeroExt), Widths::Narrow),
+    Line(
+        Shape::Widen(Family::Div, Family::SignExt, 64),
+        Widths::Narrow,
+    ),
+    Line(
+        Shape::Widen(Family::Mod, Family::SignExt, 64),
+        Widths::Narrow,
+    ),
+    Line(
+        Shape::Widen(Family::Divu, Family::ZeroExt, 64),
+        Widths::Narrow,
+    ),
+    Line(
+        Shape::Widen(Family::Modu, Family::ZeroExt, 64),
+        Widths::Narrow,
+    ),
 ];
 
 #[tactic(auto, unfolding(crate::specs::Lines::arithmetic))]
@@ -75,28 +143,19 @@ pub(crate) fn put_arithmetic(alloc: Global, rules: &mut Vec<Rule>) -> Result<(),
 /// Shifts.
 const SHIFTS: [Line; 8] = [
     Line(
-        Shape::WidenShift(Family::Rsh, Family::SignExt),
+        Shape::WidenShift(Family::Rsh, Family::SignExt, 64),
         Widths::NarrowByEach,
     ),
     Line(
-        Shape::WidenShift(Family::RshU, Family::ZeroExt),
+        Shape::WidenShift(Family::RshU, Family::ZeroExt, 64),
         Widths::NarrowByEach,
     ),
-    Line(
-        Shape::ShiftCount(Family::Lsh, RvOp::Lsl),
-        Widths::EachByNarrow,
-    ),
-    Line(Shape::Two(Family::Lsh, RvOp::Lsl), Widths::EachByWord),
-    Line(
-        Shape::ShiftCount(Family::Rsh, RvOp::Asr),
-        Widths::WordByNarrow,
-    ),
-    Line(Shape::Two(Family::Rsh, RvOp::Asr), Widths::WordByWord),
-    Line(
-        Shape::ShiftCount(Family::RshU, RvOp::Lsr),
-        Widths::WordByNarrow,
-    ),
-    Line(Shape::Two(Family::RshU, RvOp::Lsr), Widths::WordByWord),
+    Line(Shape::ShiftCount(Family::Lsh, LSL), Widths::EachByNarrow),
+    Line(Shape::Two(Family::Lsh, LSL), Widths::EachBy64),
+    Line(Shape::ShiftCount(Family::Rsh, ASR), Widths::At64ByNarrow),
+    Line(Shape::Two(Family::Rsh, ASR), Widths::At64By64),
+    Line(Shape::ShiftCount(Family::RshU, LSR), Widths::At64ByNarrow),
+    Line(Shape::Two(Family::RshU, LSR), Widths::At64By64),
 ];
 
 #[tactic(auto, unfolding(crate::specs::Lines::shifts))]
@@ -108,35 +167,41 @@ pub(crate) fn put_shifts(alloc: Global, rules: &mut Vec<Rule>) -> Result<(), All
 
 /// Comparisons and truth values.
 const COMPARISONS: [Line; 23] = [
-    Line(Shape::Test(Family::Eq, RvOp::Seqz), Widths::Word),
-    Line(Shape::TestLow(Family::Eq, RvOp::Seqz), Widths::Narrow),
-    Line(Shape::Test(Family::Neq, RvOp::Snez), Widths::Word),
-    Line(Shape::TestLow(Family::Neq, RvOp::Snez), Widths::Narrow),
-    Line(Shape::Test(Family::EqPtr, RvOp::Seqz), Widths::Alone),
-    Line(Shape::Test(Family::NeqPtr, RvOp::Snez), Widths::Alone),
-    Line(Shape::Two(Family::Less, RvOp::Slt), Widths::Word),
-    Line(Shape::Two(Family::LessU, RvOp::Sltu), Widths::Word),
-    Line(Shape::Two(Family::IsInBounds, RvOp::Sltu), Widths::Alone),
-    Line(Shape::AtMost(Family::Leq, RvOp::Slt), Widths::Word),
-    Line(Shape::AtMost(Family::LeqU, RvOp::Sltu), Widths::Word),
+    Line(Shape::Test(Family::Eq, SEQZ), Widths::At64),
+    Line(Shape::TestLow(Family::Eq, SEQZ), Widths::Narrow),
+    Line(Shape::Test(Family::Neq, SNEZ), Widths::At64),
+    Line(Shape::TestLow(Family::Neq, SNEZ), Widths::Narrow),
+    Line(Shape::Test(Family::EqPtr, SEQZ), Widths::Alone),
+    Line(Shape::Test(Family::NeqPtr, SNEZ), Widths::Alone),
+    Line(Shape::Two(Family::Less, SLT), Widths::At64),
+    Line(Shape::Two(Family::LessU, SLTU), Widths::At64),
+    Line(Shape::Two(Family::IsInBounds, SLTU), Widths::Alone),
+    Line(Shape::AtMost(Family::Leq, SLT), Widths::At64),
+    Line(Shape::AtMost(Family::LeqU, SLTU), Widths::At64),
+    Line(Shape::AtMost(Family::IsSliceInBounds, SLTU), Widths::Alone),
     Line(
-        Shape::AtMost(Family::IsSliceInBounds, RvOp::Sltu),
-        Widths::Alone,
+        Shape::Widen(Family::Less, Family::SignExt, 64),
+        Widths::Narrow,
     ),
-    Line(Shape::Widen(Family::Less, Family::SignExt), Widths::Narrow),
-    Line(Shape::Widen(Family::Leq, Family::SignExt), Widths::Narrow),
-    Line(Shape::Widen(Family::LessU, Family::ZeroExt), Widths::Narrow),
-    Line(Shape::Widen(Family::LeqU, Family::ZeroExt), Widths::Narrow),
-    Line(Shape::One(Family::IsNonNil, RvOp::Snez), Widths::Alone),
-    Line(Shape::Two(Family::AndB, RvOp::And), Widths::Alone),
-    Line(Shape::Two(Family::OrB, RvOp::Or), Widths::Alone),
-    Line(Shape::Two(Family::NeqB, RvOp::Xor), Widths::Alone),
-    Line(Shape::EqualBools, Widths::Alone),
-    Line(Shape::OneWith(Family::Not, RvOp::Xori, 1), Widths::Alone),
     Line(
-        Shape::OneWith(Family::CvtBoolToUint8, RvOp::Andi, 1),
-        Widths::Byte,
+        Shape::Widen(Family::Leq, Family::SignExt, 64),
+        Widths::Narrow,
     ),
+    Line(
+        Shape::Widen(Family::LessU, Family::ZeroExt, 64),
+        Widths::Narrow,
+    ),
+    Line(
+        Shape::Widen(Family::LeqU, Family::ZeroExt, 64),
+        Widths::Narrow,
+    ),
+    Line(Shape::One(Family::IsNonNil, SNEZ), Widths::Alone),
+    Line(Shape::Two(Family::AndB, AND), Widths::Alone),
+    Line(Shape::Two(Family::OrB, OR), Widths::Alone),
+    Line(Shape::Two(Family::NeqB, XOR), Widths::Alone),
+    Line(Shape::EqualBools(XOR, XORI), Widths::Alone),
+    Line(Shape::OneWith(Family::Not, XORI, 1), Widths::Alone),
+    Line(Shape::OneWith(Family::CvtBoolToUint8, ANDI, 1), Widths::At8),
 ];
 
 #[tactic(auto, unfolding(crate::specs::Lines::comparisons))]
@@ -148,14 +213,14 @@ pub(crate) fn put_comparisons(alloc: Global, rules: &mut Vec<Rule>) -> Result<()
 
 /// Extensions, masks, rotations and choices.
 const CONVERSIONS: [Line; 8] = [
-    Line(Shape::Extend(Family::SignExt, RvOp::Srai), Widths::Rising),
-    Line(Shape::Extend(Family::ZeroExt, RvOp::Srli), Widths::Rising),
+    Line(Shape::Extend(Family::SignExt, SRAI), Widths::Rising),
+    Line(Shape::Extend(Family::ZeroExt, SRLI), Widths::Rising),
     Line(Shape::Truncate, Widths::Falling),
     Line(Shape::SignMask, Widths::Alone),
     Line(Shape::ZeroMask, Widths::Alone),
-    Line(Shape::Two(Family::RotateLeft, RvOp::Rotl), Widths::Word),
+    Line(Shape::Two(Family::RotateLeft, ROTL), Widths::At64),
     Line(Shape::RotateHalf, Widths::Alone),
-    Line(Shape::Three(Family::CondSelect, RvOp::Sel), Widths::Alone),
+    Line(Shape::Three(Family::CondSelect, SEL), Widths::Alone),
 ];
 
 #[tactic(auto, unfolding(crate::specs::Lines::conversions))]
@@ -167,12 +232,12 @@ pub(crate) fn put_conversions(alloc: Global, rules: &mut Vec<Rule>) -> Result<()
 
 /// Loads, stores and checks.
 const ACCESSES: [Line; 7] = [
-    Line(Shape::Load, Widths::Sizes),
-    Line(Shape::StoreBool, Widths::Alone),
-    Line(Shape::Store, Widths::Sizes),
-    Line(Shape::Zero, Widths::Alone),
-    Line(Shape::Move, Widths::Alone),
-    Line(Shape::Two(Family::NilCheck, RvOp::Nil), Widths::Alone),
+    Line(Shape::Load(LOAD), Widths::UpTo8),
+    Line(Shape::StoreBool(STORE_B), Widths::Alone),
+    Line(Shape::Store(STORE), Widths::UpTo8),
+    Line(Shape::Zero(ZERO), Widths::Alone),
+    Line(Shape::Move(MOVE), Widths::Alone),
+    Line(Shape::Two(Family::NilCheck, NIL), Widths::Alone),
     Line(Shape::Panic, Widths::Alone),
 ];
 
@@ -185,16 +250,34 @@ pub(crate) fn put_accesses(alloc: Global, rules: &mut Vec<Rule>) -> Result<(), A
 
 /// Constants beside machine ops.
 const IMMEDIATES: [Line; 10] = [
-    Line(Shape::Immediate(RvOp::Add, RvOp::Addi), Widths::Alone),
-    Line(Shape::Immediate(RvOp::And, RvOp::Andi), Widths::Alone),
-    Line(Shape::Immediate(RvOp::Or, RvOp::Ori), Widths::Alone),
-    Line(Shape::Immediate(RvOp::Xor, RvOp::Xori), Widths::Alone),
-    Line(Shape::ImmediateShift(RvOp::Lsl, RvOp::Slli), Widths::Alone),
-    Line(Shape::ImmediateShift(RvOp::Lsr, RvOp::Srli), Widths::Alone),
-    Line(Shape::ImmediateShift(RvOp::Asr, RvOp::Srai), Widths::Alone),
-    Line(Shape::LoadNear, Widths::Sizes),
-    Line(Shape::StoreNear(RvOp::Store), Widths::Sizes),
-    Line(Shape::StoreNear(RvOp::StoreB), Widths::Alone),
+    Line(
+        Shape::Immediate(ADD, CONST, ADDI, Fits::Is12),
+        Widths::Alone,
+    ),
+    Line(
+        Shape::Immediate(AND, CONST, ANDI, Fits::Is12),
+        Widths::Alone,
+    ),
+    Line(Shape::Immediate(OR, CONST, ORI, Fits::Is12), Widths::Alone),
+    Line(
+        Shape::Immediate(XOR, CONST, XORI, Fits::Is12),
+        Widths::Alone,
+    ),
+    Line(
+        Shape::Immediate(LSL, CONST, SLLI, Fits::Below(64)),
+        Widths::Alone,
+    ),
+    Line(
+        Shape::Immediate(LSR, CONST, SRLI, Fits::Below(64)),
+        Widths::Alone,
+    ),
+    Line(
+        Shape::Immediate(ASR, CONST, SRAI, Fits::Below(64)),
+        Widths::Alone,
+    ),
+    Line(Shape::LoadNear(LOAD, ADDI, Fits::Is12), Widths::UpTo8),
+    Line(Shape::StoreNear(STORE, ADDI, Fits::Is12), Widths::UpTo8),
+    Line(Shape::StoreNear(STORE_B, ADDI, Fits::Is12), Widths::Alone),
 ];
 
 #[tactic(auto, unfolding(crate::specs::Lines::immediates))]

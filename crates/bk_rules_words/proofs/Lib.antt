@@ -1,0 +1,5 @@
+pub mod Bits
+pub mod Extended
+pub mod LoadStore
+pub mod LowBits
+pub mod Whole

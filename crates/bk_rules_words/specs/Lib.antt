@@ -1,0 +1,4 @@
+pub mod Families
+pub mod Lines
+pub mod Nodes
+pub mod Sound
