@@ -44,7 +44,7 @@ pub const ADD_CODE: [u32; 11] = [
 
 /// The sum, and a function that calls it.
 pub const ADD_AND_TWICE: &str =
-    "add func(a int, b int) int\nb1:\nv1 = InitMem <mem>\nv2 = Arg <int> {a}\nv3 = Arg <int> {b}\nv4 = Add64 <int> v2 v3\nv5 = MakeResult <int,mem> v4 v1\nRet v5\ntwice func(a int) int\nb1:\nv1 = InitMem <mem>\nv2 = Arg <int> {a}\nv3 = StaticLECall <mem> {add} v2 v2 v1\nv4 = SelectN <int> [0] v3\nv5 = SelectN <mem> [1] v3\nv6 = MakeResult <int,mem> v4 v5\nRet v6\n";
+    "add func(a int, b int) int\nb1:\nv1 = InitMem <mem>\nv2 = Arg <int> {a}\nv3 = Arg <int> {b}\nv4 = Add64 <int> v2 v3\nv5 = MakeResult <int,mem> v4 v1\nRet v5\ntwice func(a int) int\nb1:\nv1 = InitMem <mem>\nv2 = Arg <int> {a}\nv3 = StaticLECall <int,mem> {add} v2 v2 v1\nv4 = SelectN <int> [0] v3\nv5 = SelectN <mem> [1] v3\nv6 = MakeResult <int,mem> v4 v5\nRet v6\n";
 
 /// The words of their code: the sum has no frame but for the swap word and the return address, the second has 40 bytes.
 pub const TWICE_CODE: [u32; 23] = [
