@@ -569,8 +569,16 @@ fn rules(rt: HostRuntime) -> Result<(), Memory> {
     let left = answered(rt.alloc(), "rules", b"", faults)?;
     let text = str::from_utf8(left.out.bytes()).unwrap_or("");
     assert_eq!(rt; left.status, 0);
-    assert!(rt; text.starts_with("# generic\n("));
-    assert_eq!(rt; text.find("# riscv64\n("), Some(12_243));
+    let lists = [
+        ("# generic\n(", 0),
+        ("# dec64\n(", 12_243),
+        ("# arm\n(", 16_617),
+        ("# riscv64\n(", 23_373),
+    ];
+    for (name, place) in lists {
+        assert_eq!(rt; text.find(name), Some(place), "{name}");
+    }
+    assert_eq!(rt; text.len(), 32_886);
     Ok(())
 }
 

@@ -7,6 +7,8 @@ ghost use Rattle.bk_top.specs.Listing.{listing};
 use bk_func::Memory;
 use bk_rule::Rule;
 use bk_rule_text::print_rules;
+use bk_rules_arm::arm_rules;
+use bk_rules_dec64::dec64_rules;
 use bk_rules_generic::generic_rules;
 use bk_rules_rv::rv_rules;
 use std::alloc::Global;
@@ -18,6 +20,8 @@ pub fn rules_listing(alloc: Global) -> Result<Vec<u8>, Memory>
 {
     let mut text = Vec::new(alloc);
     push_list(alloc, &mut text, "# generic\n", &generic_rules(alloc)?)?;
+    push_list(alloc, &mut text, "# dec64\n", &dec64_rules(alloc)?)?;
+    push_list(alloc, &mut text, "# arm\n", &arm_rules(alloc)?)?;
     push_list(alloc, &mut text, "# riscv64\n", &rv_rules(alloc)?)?;
     Ok(text)
 }
