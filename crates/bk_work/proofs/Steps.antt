@@ -4,6 +4,7 @@ use Rattle.std.specs.Prelude.{IfErr, IfOk}
 use Rattle.std.specs.Result.{IsErrAnd}
 use Rattle.std.proofs.lemmas.Result.{err_from_is_err_and}
 use Rattle.bk_ops.specs.declared.types.Target.{Target}
+use Rattle.bk_ops.specs.declared.types.Target.TheVariants.{Arm, Riscv64}
 use Rattle.bk_func.specs.declared.RewriteError.{RewriteError}
 use Rattle.bk_func.specs.declared.RewriteError.TheVariants as rewrite
 use Rattle.bk_func.specs.Limits.{most_frame}
@@ -14,6 +15,7 @@ use Rattle.bk_calls.specs.declared.frame.FrameError.{FrameError}
 use Rattle.bk_calls.specs.declared.frame.FrameError.TheVariants as framing
 use Rattle.bk_calls.specs.Budget.{is_grown}
 use Rattle.bk_calls.specs.Frame.{need}
+use Rattle.bk_dec64.specs.Decomposed as halved
 use Rattle.bk_graph.specs.Critical.{without_critical}
 use Rattle.bk_graph.specs.Layout.{layout_of}
 use Rattle.bk_sched.specs.Schedule.{IsSchedule}
@@ -26,8 +28,8 @@ use Rattle.bk_work.specs.declared.refusals.Stop.{Stop}
 use Rattle.bk_work.specs.declared.refusals.Stop.TheVariants.{Refused, Memory}
 use Rattle.bk_work.specs.Each.{Each}
 use Rattle.bk_work.specs.Framed.{FramedRecord, IsFramed, IsMade, IsPlaced, IsTooDeep}
-use Rattle.bk_work.specs.Lowered.{IsCoded, IsInWords, IsLowered, IsSettled, pass_limit}
-use Rattle.bk_work.specs.Refused.{IsRefused, IsUnframed, IsUnsettled, LacksCode, construct, generic, words, machine, frame, passes, values, grown}
+use Rattle.bk_work.specs.Lowered.{IsCoded, IsDecomposed, IsFitted, IsInHalves, IsInWords, IsLowered, IsSettled, pass_limit}
+use Rattle.bk_work.specs.Refused.{IsNarrowed, IsRefused, IsUnfit, IsUnframed, IsUnhalved, IsUnsettled, LacksCode, construct, generic, halves, words, machine, frame, passes, values, no_room, unsettled, grown}
 use Rattle.bk_work.specs.Rules.{RulesRecord}
 use Rattle.bk_work.specs.Stops.{IfRefused, frame_stop, stop_of}
 
@@ -38,6 +40,14 @@ if_refused P Q Memory step h = tt
 unsettled_unframed : (t : Target) (rules : List Rule) (f : FuncRecord) (cause : Cause) → IsUnsettled t rules f cause → IsUnframed cause
 unsettled_unframed t rules f _ (passes last h) = λ bytes e. absurd cc
 unsettled_unframed t rules f _ (values h) = λ bytes e. absurd cc
+
+unhalved_unframed : (pkg : PackageRecord) (rules : List Rule) (f : FuncRecord) (cause : Cause) → IsUnhalved pkg rules f cause → IsUnframed cause
+unhalved_unframed pkg rules f _ (no_room h) = λ bytes e. absurd cc
+unhalved_unframed pkg rules f _ (unsettled apart cause d h) = unsettled_unframed Arm rules apart cause h
+
+unfit_unframed : (pkg : PackageRecord) (t : Target) (rules : List Rule) (f : FuncRecord) (cause : Cause) → IsUnfit pkg t rules f cause → IsUnframed cause
+unfit_unframed pkg Arm rules f cause h = unhalved_unframed pkg rules f cause h
+unfit_unframed pkg Riscv64 rules f cause h = absurd h
 
 abbrev pub IsEarly : PackageRecord → Target → RulesRecord → FuncRecord → Cause → Type 0
 IsEarly pkg t rules f cause = IsRefused pkg t rules f cause × IsUnframed cause
@@ -59,43 +69,61 @@ pub generic_fails : (pkg : PackageRecord) (t : Target) (rules : RulesRecord) (li
 generic_fails pkg t rules list f live stop is coded = if_refused (IsUnsettled t list live) (IsEarly pkg t rules f) stop
     (λ cause h. (generic live cause coded (subst (λ l. IsUnsettled t l live cause) is h), unsettled_unframed t list live cause h))
 
-pub words_fail : (pkg : PackageRecord) (t : Target) (rules : RulesRecord) (list : List Rule) (f live settled : FuncRecord) (stop : Stop) → list ≡ rules.generic → IsCoded t f live
-    → IsSettled t list live settled → IfRefused stop (λ cause. (is_grown t settled ≡ true) × (cause ≡ grown)) → IfRefused stop (IsEarly pkg t rules f)
-words_fail pkg t rules list f live settled stop is coded first =
-    if_refused (λ cause. (is_grown t settled ≡ true) × (cause ≡ grown)) (IsEarly pkg t rules f) stop (λ cause h.
-    let same : cause ≡ grown = h.1 in
-    (subst (IsRefused pkg t rules f) (sym same) (words live settled coded (subst (λ l. IsSettled t l live settled) is first) h.0), λ bytes e. absurd cc))
-
--- the lists of both rewritings, and what the steps before the last give
-pub record AreBefore (pkg : PackageRecord) (t : Target) (rules : RulesRecord) (list last : List Rule) (f live settled in_words : FuncRecord) : Type 0 where
-  pub generic_is : list ≡ rules.generic
-  pub machine_is : last ≡ rules.machine
-  pub coded : IsCoded t f live
-  pub first : IsSettled t list live settled
-  pub second : IsInWords pkg t settled in_words
-
-pub machine_fails : {A : Type 0} (pkg : PackageRecord) (t : Target) (rules : RulesRecord) (list last : List Rule) (f live settled in_words : FuncRecord) (r : Result A Stop)
-    → AreBefore pkg t rules list last f live settled in_words → IfErr r (λ stop. IfRefused stop (IsUnsettled t last in_words)) → IfErr r (λ stop. IfRefused stop (IsEarly pkg t rules f))
-machine_fails pkg t rules list last f live settled in_words (Ok g) before h = h
-machine_fails pkg t rules list last f live settled in_words (Err stop) before h = if_refused (IsUnsettled t last in_words) (IsEarly pkg t rules f) stop
+pub halves_fail : (pkg : PackageRecord) (t : Target) (rules : RulesRecord) (list more : List Rule) (f live settled : FuncRecord) (stop : Stop) → list ≡ rules.generic → more ≡ rules.halves
+    → IsCoded t f live → IsSettled t list live settled → IfRefused stop (IsUnfit pkg t more settled) → IfRefused stop (IsEarly pkg t rules f)
+halves_fail pkg t rules list more f live settled stop is more_is coded first = if_refused (IsUnfit pkg t more settled) (IsEarly pkg t rules f) stop
     (λ cause h. (
-      machine live settled in_words cause before.coded (subst (λ l. IsSettled t l live settled) before.generic_is before.first) before.second
-          (subst (λ l. IsUnsettled t l in_words cause) before.machine_is h),
+      halves live settled cause coded (subst (λ l. IsSettled t l live settled) is first) (subst (λ l. IsUnfit pkg t l settled cause) more_is h),
+      unfit_unframed pkg t more settled cause h,
+    ))
+
+-- the steps before calls go to words, by the lists that the code has
+pub narrowed : (pkg : PackageRecord) (t : Target) (rules : RulesRecord) (list more : List Rule) (f live settled fit : FuncRecord) → list ≡ rules.generic → more ≡ rules.halves → IsCoded t f live
+    → IsSettled t list live settled → IsFitted pkg t more settled fit → IsNarrowed pkg t rules f fit
+narrowed pkg t rules list more f live settled fit is more_is coded first fitted = record {
+  live = live;
+  settled = settled;
+  coded = coded;
+  generic = subst (λ l. IsSettled t l live settled) is first;
+  fitted = subst (λ l. IsFitted pkg t l settled fit) more_is fitted;
+}
+
+pub words_fail : (pkg : PackageRecord) (t : Target) (rules : RulesRecord) (f fit : FuncRecord) (stop : Stop) → IsNarrowed pkg t rules f fit
+    → IfRefused stop (λ cause. (is_grown t fit ≡ true) × (cause ≡ grown)) → IfRefused stop (IsEarly pkg t rules f)
+words_fail pkg t rules f fit stop before =
+    if_refused (λ cause. (is_grown t fit ≡ true) × (cause ≡ grown)) (IsEarly pkg t rules f) stop (λ cause h.
+    let same : cause ≡ grown = h.1 in
+    (subst (IsRefused pkg t rules f) (sym same) (words fit before h.0), λ bytes e. absurd cc))
+
+-- the list of the last rewriting, and what the steps before it give
+pub record AreBefore (pkg : PackageRecord) (t : Target) (rules : RulesRecord) (last : List Rule) (f fit in_words : FuncRecord) : Type 0 where
+  pub machine_is : last ≡ rules.machine
+  pub first : IsNarrowed pkg t rules f fit
+  pub second : IsInWords pkg t fit in_words
+
+pub machine_fails : {A : Type 0} (pkg : PackageRecord) (t : Target) (rules : RulesRecord) (last : List Rule) (f fit in_words : FuncRecord) (r : Result A Stop)
+    → AreBefore pkg t rules last f fit in_words → IfErr r (λ stop. IfRefused stop (IsUnsettled t last in_words)) → IfErr r (λ stop. IfRefused stop (IsEarly pkg t rules f))
+machine_fails pkg t rules last f fit in_words (Ok g) before h = h
+machine_fails pkg t rules last f fit in_words (Err stop) before h = if_refused (IsUnsettled t last in_words) (IsEarly pkg t rules f) stop
+    (λ cause h. (
+      machine fit in_words cause before.first before.second (subst (λ l. IsUnsettled t l in_words cause) before.machine_is h),
       unsettled_unframed t last in_words cause h,
     )) h
 
-pub all_steps : {E : Type 0} (pkg : PackageRecord) (t : Target) (rules : RulesRecord) (list last : List Rule) (f live settled in_words : FuncRecord) (r : Result FuncRecord E)
-    → AreBefore pkg t rules list last f live settled in_words → IfOk r (IsSettled t last in_words) → IfOk r (IsLowered pkg t rules f)
-all_steps pkg t rules list last f live settled in_words (Ok g) before h = record {
-  live = live;
-  settled = settled;
+pub all_steps : {E : Type 0} (pkg : PackageRecord) (t : Target) (rules : RulesRecord) (last : List Rule) (f fit in_words : FuncRecord) (r : Result FuncRecord E)
+    → AreBefore pkg t rules last f fit in_words → IfOk r (IsSettled t last in_words) → IfOk r (IsLowered pkg t rules f)
+all_steps pkg t rules last f fit in_words (Ok g) before h = record {
+  live = before.first.live;
+  settled = before.first.settled;
+  fit = fit;
   words = in_words;
-  coded = before.coded;
-  generic = subst (λ l. IsSettled t l live settled) before.generic_is before.first;
+  coded = before.first.coded;
+  generic = before.first.generic;
+  fitted = before.first.fitted;
   in_words = before.second;
   machine = subst (λ l. IsSettled t l in_words g) before.machine_is h;
 }
-all_steps pkg t rules list last f live settled in_words (Err stop) before h = h
+all_steps pkg t rules last f fit in_words (Err stop) before h = h
 
 pub lowering_fails : (pkg : PackageRecord) (t : Target) (rules : RulesRecord) (f : FuncRecord) (stop : Stop) → IfRefused stop (IsEarly pkg t rules f) → IfRefused stop (IsRefused pkg t rules f)
 lowering_fails pkg t rules f stop = if_refused (IsEarly pkg t rules f) (IsRefused pkg t rules f) stop (λ cause h. h.0)
@@ -122,6 +150,21 @@ refused_rewrite t rules f e cases many big = ⊎_elim
     (λ h. let m = many h in subst (λ x. IfRefused (stop_of x) (IsUnsettled t rules f)) (sym h) (passes m.0 m.1))
     rest)
     cases
+
+pub unhalved_room : (pkg : PackageRecord) (rules : List Rule) (f : FuncRecord) (stop : Stop) → IfRefused stop (λ cause. (halved.is_grown f ≡ true) × (cause ≡ grown))
+    → IfRefused stop (IsUnhalved pkg rules f)
+unhalved_room pkg rules f stop = if_refused (λ cause. (halved.is_grown f ≡ true) × (cause ≡ grown)) (IsUnhalved pkg rules f) stop
+    (λ cause h. subst (IsUnhalved pkg rules f) (sym h.1) (no_room h.0))
+
+pub unhalved_rules : {A : Type 0} (pkg : PackageRecord) (rules : List Rule) (f apart : FuncRecord) (r : Result A Stop) → IsDecomposed pkg f apart
+    → IfErr r (λ stop. IfRefused stop (IsUnsettled Arm rules apart)) → IfErr r (λ stop. IfRefused stop (IsUnhalved pkg rules f))
+unhalved_rules pkg rules f apart (Ok g) d h = h
+unhalved_rules pkg rules f apart (Err stop) d h = if_refused (IsUnsettled Arm rules apart) (IsUnhalved pkg rules f) stop (λ cause h. unsettled apart cause d h) h
+
+pub in_halves : {E : Type 0} (pkg : PackageRecord) (rules : List Rule) (f apart : FuncRecord) (r : Result FuncRecord E) → IsDecomposed pkg f apart → IfOk r (IsSettled Arm rules apart)
+    → IfOk r (IsInHalves pkg rules f)
+in_halves pkg rules f apart (Ok g) d h = record { apart = apart; decomposed = d; settled = h }
+in_halves pkg rules f apart (Err e) d h = h
 
 pub refused_words : (P : Type 0) (e : RewriteError) → (e ≡ rewrite.Memory) ⊎ ((e ≡ rewrite.Grown 32769) × P) → IfRefused (stop_of e) (λ cause. P × (cause ≡ grown))
 refused_words P e cases = ⊎_elim

@@ -1,12 +1,14 @@
 -- How a function in SSA form becomes one of the target's own ops on words.
 use Rattle.std.specs.Prelude.{◌≡◌, ℕ, ◌+◌, false, List, None}
 use Rattle.bk_ops.specs.declared.types.Target.{Target}
+use Rattle.bk_ops.specs.declared.types.Target.TheVariants.{Arm, Riscv64}
 use Rattle.bk_func.specs.Construct.{first_construct}
 use Rattle.bk_func.specs.Records.{FuncRecord, PackageRecord}
 use Rattle.bk_rule.specs.declared.trees.Rule.{Rule}
 use Rattle.bk_rewrite.specs.Passes.{Settles}
 use Rattle.bk_calls.specs.Areas.{areas_of}
 use Rattle.bk_calls.specs.Budget.{is_grown}
+use Rattle.bk_dec64.specs.Decomposed as halves
 use Rattle.bk_work.specs.Rules.{RulesRecord}
 
 -- what `clean` makes of a function, of which its contract does not say yet which function it is
@@ -28,6 +30,22 @@ pub record IsSettled (t : Target) (rules : List Rule) (f g : FuncRecord) : Type 
   pub settled : Settles t rules (pass_limit f) f last
   pub cleaned : IsCleaned last g
 
+-- values of 64 bits that come from outside or go there are in halves, for which there was room
+pub record IsDecomposed (pkg : PackageRecord) (f g : FuncRecord) : Type 0 where
+  pub room : halves.is_grown f ≡ false
+  pub apart : g ≡ halves.decomposed pkg f
+
+-- and what is computed of them is computed of halves
+pub record IsInHalves (pkg : PackageRecord) (rules : List Rule) (f g : FuncRecord) : Type 0 where
+  pub apart : FuncRecord
+  pub decomposed : IsDecomposed pkg f apart
+  pub settled : IsSettled Arm rules apart g
+
+-- a word of the target holds each value: one of riscv64 always does
+abbrev pub IsFitted : PackageRecord → Target → List Rule → FuncRecord → FuncRecord → Type 0
+IsFitted pkg Arm rules f g = IsInHalves pkg rules f g
+IsFitted pkg Riscv64 rules f g = g ≡ f
+
 -- arguments, calls and results are words, for which there was room
 pub record IsInWords (pkg : PackageRecord) (t : Target) (f g : FuncRecord) : Type 0 where
   pub room : is_grown t f ≡ false
@@ -37,8 +55,10 @@ pub record IsInWords (pkg : PackageRecord) (t : Target) (f g : FuncRecord) : Typ
 pub record IsLowered (pkg : PackageRecord) (t : Target) (rules : RulesRecord) (f g : FuncRecord) : Type 0 where
   pub live : FuncRecord
   pub settled : FuncRecord
+  pub fit : FuncRecord
   pub words : FuncRecord
   pub coded : IsCoded t f live
   pub generic : IsSettled t rules.generic live settled
-  pub in_words : IsInWords pkg t settled words
+  pub fitted : IsFitted pkg t rules.halves settled fit
+  pub in_words : IsInWords pkg t fit words
   pub machine : IsSettled t rules.machine words g

@@ -1,8 +1,9 @@
 -- What is made of a package: each function alone, in package order.
 use Rattle.std.specs.Prelude.{◌≡◌, ℕ, ◌+◌, ◌<◌, ◌==◌, List, [], ◌∷◌, map, filter, flat_map}
 use Rattle.bk_ops.specs.declared.types.Target.{Target}
+use Rattle.bk_ops.specs.declared.types.Target.TheVariants.{Arm, Riscv64}
 use Rattle.bk_func.specs.Limits.{most_text}
-use Rattle.bk_func.specs.Records.{FuncRecord, PackageRecord}
+use Rattle.bk_func.specs.Records.{FuncRecord, PackageRecord, PlacedRecord}
 use Rattle.bk_rule.specs.declared.trees.Rule.{Rule}
 use Rattle.bk_piece.specs.declared.Handle.{Handle}
 use Rattle.bk_piece.specs.declared.Key.{Key}
@@ -10,7 +11,8 @@ use Rattle.bk_piece.specs.Filled.{area, key_at}
 use Rattle.bk_piece.specs.Pieces.{PieceRecord}
 use Rattle.bk_piece.specs.Rising.{keys_in, rising}
 use Rattle.bk_fixup.specs.Keys.{keys_of}
-use Rattle.bk_rv_emit.specs.Code.{IsPiece}
+use Rattle.bk_arm_emit.specs.Code as arm
+use Rattle.bk_rv_emit.specs.Code as rv
 use Rattle.bk_elf.specs.File.{file_of}
 use Rattle.bk_link.specs.Linked.{code_size, gathered}
 use Rattle.bk_work.specs.declared.refusals.Cause.{Cause}
@@ -56,18 +58,23 @@ distinct_in a keys = rising (flat_map (in_area a) keys)
 abbrev pub words_of : List (List Key) → List (List ℕ)
 words_of keys = distinct_in 0 keys ∷ distinct_in 1 keys ∷ distinct_in 2 keys ∷ []
 
+-- the code of a placed function for the target
+abbrev pub IsPiece : Target → FuncRecord → PlacedRecord → ℕ → List Handle → PieceRecord → Type 0
+IsPiece Arm f placed frame keys piece = arm.IsPiece f placed frame keys piece
+IsPiece Riscv64 f placed frame keys piece = rv.IsPiece f placed frame keys piece
+
 -- the code of a function, with a handle for each of its keys, whose cell holds that key
-pub record IsCode (words : List (List ℕ)) (it : FramedRecord) (piece : PieceRecord) : Type 0 where
+pub record IsCode (t : Target) (words : List (List ℕ)) (it : FramedRecord) (piece : PieceRecord) : Type 0 where
   pub handles : List Handle
   pub keys : map (key_at words) handles ≡ keys_of it.func
-  pub code : IsPiece it.func it.placed it.frame handles piece
+  pub code : IsPiece t it.func it.placed it.frame handles piece
 
 -- the code of all functions of the package, and the words of the cells of their keys
 pub record ArePieces (pkg : PackageRecord) (t : Target) (rules : RulesRecord) (pieces : List PieceRecord) (words : List (List ℕ)) : Type 0 where
   pub framed : List FramedRecord
   pub made : AreFramed pkg t rules framed
   pub cells : words ≡ words_of (map (λ it. keys_of it.func) framed)
-  pub code : Each (IsCode words) framed pieces
+  pub code : Each (IsCode t words) framed pieces
 
 -- the bytes are the object of the package
 pub record IsCompiled (pkg : PackageRecord) (t : Target) (extra : List Rule) (bytes : List ℕ) : Type 0 where

@@ -1,11 +1,12 @@
 // A function from SSA form to the target's ops on words.
 ghost use Rattle.std.specs.Prelude.{◌≡◌, ℕ, Some, true, slice_get, IfErr, IfOk, OnOk};
 ghost use Rattle.bk_calls.specs.Budget.{is_grown};
+ghost use Rattle.bk_dec64.specs.Decomposed as halves;
 ghost use Rattle.bk_func.specs.Records.{FuncRecord};
 ghost use Rattle.bk_rewrite.specs.Passes.{Settles};
 ghost use Rattle.bk_rewrite.specs.Places.{HasNumbers, HasRoom};
-ghost use Rattle.bk_work.specs.Lowered.{IsCleaned, IsCoded, IsInWords, IsLowered, IsSettled, pass_limit};
-ghost use Rattle.bk_work.specs.Refused.{IsRefused, IsUnframed, IsUnsettled, LacksCode, grown};
+ghost use Rattle.bk_work.specs.Lowered.{IsCleaned, IsCoded, IsDecomposed, IsFitted, IsInHalves, IsInWords, IsLowered, IsSettled, pass_limit};
+ghost use Rattle.bk_work.specs.Refused.{IsRefused, IsUnfit, IsUnframed, IsUnhalved, IsUnsettled, LacksCode, grown};
 ghost use Rattle.bk_work.specs.Rules.{rules_of};
 ghost use Rattle.bk_work.specs.Stops.{IfRefused};
 
@@ -13,6 +14,7 @@ use crate::numbers::{has_numbers, has_room};
 use crate::refusals::{Cause, Stop};
 use crate::rules::Rules;
 use bk_calls::word_areas;
+use bk_dec64::decompose;
 use bk_func::{Func, Memory, Package, copy_func, first_construct};
 use bk_graph::clean;
 use bk_ops::Target;
@@ -61,8 +63,10 @@ pub(crate) fn lowered(
     let live = coded(alloc, func, target)?;
     // Rules that hold on every target take values as wide as their types, so they come before words, which may be wider.
     let generic = settled(alloc, live, &rules.generic, target)?;
+    // Words of arm have 32 bits, and calls take and give words.
+    let fit = fitted(alloc, pkg, generic, &rules.halves, target)?;
     // Calls take and give words before the target's rules, which know words alone.
-    let words = in_words(alloc, pkg, generic, target)?;
+    let words = in_words(alloc, pkg, fit, target)?;
     // Last, since nothing else knows the target's own ops.
     settled(alloc, words, &rules.machine, target)
 }
@@ -116,6 +120,41 @@ fn ask_numbers(alloc: Global, func: &Func) -> Result<(), Memory>
     } else {
         Err(Memory)
     }
+}
+
+/// The function with each value in a word of the target.
+fn fitted(
+    alloc: Global,
+    pkg: &Package,
+    func: Func,
+    rules: &[Rule],
+    target: Target,
+) -> Result<Func, Stop>
+    ensures fitted { IfOk result (IsFitted pkg.now target rules.now func) }
+    ensures cause { IfErr result (λ stop. IfRefused stop (IsUnfit pkg.now target rules.now func)) }
+{
+    match target {
+        Target::Arm => in_halves(alloc, pkg, func, rules),
+        Target::Riscv64 => Ok(func),
+    }
+}
+
+/// The function with 64 bits in two words of arm.
+fn in_halves(alloc: Global, pkg: &Package, func: Func, rules: &[Rule]) -> Result<Func, Stop>
+    ensures halves { IfOk result (IsInHalves pkg.now rules.now func) }
+    ensures cause { IfErr result (λ stop. IfRefused stop (IsUnhalved pkg.now rules.now func)) }
+{
+    let apart = apart(alloc, pkg, func)?;
+    settled(alloc, apart, rules, Target::Arm)
+}
+
+fn apart(alloc: Global, pkg: &Package, func: Func) -> Result<Func, Stop>
+    ensures apart { IfOk result (IsDecomposed pkg.now func) }
+    ensures cause { IfErr result (λ stop. IfRefused stop (λ cause. (halves.is_grown func ≡ true) × (cause ≡ grown))) }
+{
+    let mut func = func;
+    decompose(alloc, &mut func, pkg)?;
+    Ok(func)
 }
 
 fn in_words(alloc: Global, pkg: &Package, func: Func, target: Target) -> Result<Func, Stop>

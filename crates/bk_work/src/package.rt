@@ -30,7 +30,7 @@ pub fn compile_package(
     ensures cause { IfErr result (IsError pkg.now target extra.now) }
 {
     let framed = all_framed(alloc, pkg, target, extra)?;
-    let code = Code::new(alloc, &framed)?;
+    let code = Code::new(alloc, target, &framed)?;
     linked(alloc, pkg, target, &code.pieces, &code.words)
 }
 

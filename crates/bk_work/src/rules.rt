@@ -1,21 +1,26 @@
-// The rules of the two rewritings.
+// The rules of the rewritings.
 ghost use Rattle.std.specs.Prelude.{◌≡◌, ◌++◌, IfOk};
+ghost use Rattle.bk_rules_dec64.specs.Lines.{dec64_list};
 ghost use Rattle.bk_rules_generic.specs.Lines.{generic_list};
-ghost use Rattle.bk_work.specs.Rules.{machine_rules, rules_of};
+ghost use Rattle.bk_work.specs.Rules.{halves_rules, machine_rules, rules_of};
 
 use bk_func::Memory;
 use bk_ops::Target;
 use bk_rule::{Rule, copy_rules};
+use bk_rules_arm::arm_rules;
+use bk_rules_dec64::dec64_rules;
 use bk_rules_generic::generic_rules;
 use bk_rules_rv::rv_rules;
 use std::alloc::Global;
 use std::marker::Model;
 
-/// The rules of the two rewritings, made once for all functions of a package.
+/// The rules of the rewritings, made once for all functions of a package.
 #[derive(Drop)]
 pub(crate) struct Rules {
     /// Those that hold on every target, and behind them the extra ones.
     pub(crate) generic: Vec<Rule>,
+    /// Those that take 64 bits apart, where the target's words have 32, and behind them the generic ones again.
+    pub(crate) halves: Vec<Rule>,
     /// Those that give the target's own ops.
     pub(crate) machine: Vec<Rule>,
 }
@@ -31,7 +36,7 @@ impl Model for Rules {
 
     ghost coded = { Prim.hlevel (codes, pattern.the_row.coded, expr.the_row.coded, build.the_row.coded) };
 
-    ghost view = { λ it. record { generic = it.generic.items; machine = it.machine.items } };
+    ghost view = { λ it. record { generic = it.generic.items; halves = it.halves.items; machine = it.machine.items } };
 }
 
 impl Rules {
@@ -40,6 +45,7 @@ impl Rules {
     {
         Ok(Rules {
             generic: with_extra(alloc, extra)?,
+            halves: halves_rules(alloc, target)?,
             machine: machine_rules(alloc, target)?,
         })
     }
@@ -54,11 +60,29 @@ fn with_extra(alloc: Global, extra: &[Rule]) -> Result<Vec<Rule>, Memory>
     Ok(rules)
 }
 
+fn halves_rules(alloc: Global, target: Target) -> Result<Vec<Rule>, Memory>
+    ensures { IfOk result (λ rules. rules.items ≡ halves_rules target) }
+{
+    match target {
+        Target::Arm => all_for_halves(alloc),
+        Target::Riscv64 => Ok(Vec::new(alloc)),
+    }
+}
+
+fn all_for_halves(alloc: Global) -> Result<Vec<Rule>, Memory>
+    ensures { IfOk result (λ rules. rules.items ≡ dec64_list ++ generic_list) }
+{
+    let mut rules = dec64_rules(alloc)?;
+    let mut generic = generic_rules(alloc)?;
+    rules.append(&mut generic)?;
+    Ok(rules)
+}
+
 fn machine_rules(alloc: Global, target: Target) -> Result<Vec<Rule>, Memory>
     ensures { IfOk result (λ rules. rules.items ≡ machine_rules target) }
 {
     match target {
-        Target::Arm => Ok(Vec::new(alloc)),
+        Target::Arm => arm_rules(alloc),
         Target::Riscv64 => rv_rules(alloc),
     }
 }

@@ -4,4 +4,4 @@ use Rattle.bk_work.specs.Package.{IsCode}
 use Rattle.bk_work.proofs.coding.pieces.Given as goal
 
 abbrev pub invariant-loop-place : goal.invariant-loop-place
-invariant-loop-place l = Each (IsCode (map (λ w. w.items) l.words)) (take l.place l.framed) l.pieces.items
+invariant-loop-place l = Each (IsCode l.target (map (λ w. w.items) l.words)) (take l.place l.framed) l.pieces.items

@@ -23,9 +23,9 @@ returns c =
       made = c.in_ok-framed.ensures.framed;
       cells = listed ∙ (c.in_ok-code.ensures.words ∙ ap (λ (its : List FramedRecord). words_of (map (λ it. keys_of it.func) its)) c.deref.ensures.value);
       code =
-          subst (λ (ws : List (List ℕ)). Each (IsCode ws) framed pieces) (sym listed)
-          (subst (λ (ps : List PieceRecord). Each (IsCode (map (λ (w : Vec ℕ Global). w.items) code.words.items)) framed ps) (sym c.deref-2.ensures.value)
-          (subst (λ (its : List FramedRecord). Each (IsCode (map (λ (w : Vec ℕ Global). w.items) code.words.items)) its code.pieces.items) c.deref.ensures.value c.in_ok-code.ensures.pieces));
+          subst (λ (ws : List (List ℕ)). Each (IsCode c.args.target ws) framed pieces) (sym listed)
+          (subst (λ (ps : List PieceRecord). Each (IsCode c.args.target (map (λ (w : Vec ℕ Global). w.items) code.words.items)) framed ps) (sym c.deref-2.ensures.value)
+          (subst (λ (its : List FramedRecord). Each (IsCode c.args.target (map (λ (w : Vec ℕ Global). w.items) code.words.items)) its code.pieces.items) c.deref.ensures.value c.in_ok-code.ensures.pieces));
     } in
     record {
       made = compiled _ c.linked.result pkg t extra pieces words made c.linked.ensures.made;
