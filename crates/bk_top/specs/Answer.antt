@@ -20,7 +20,7 @@ use Rattle.bk_dump.specs.Generate.{generated}
 use Rattle.bk_top.specs.declared.refusal.Refusal.{Refusal}
 use Rattle.bk_top.specs.declared.refusal.Refusal.TheVariants.{Words, ReadFault, TooLong, ExtraTooLong, RuleSyntax, RuleOp, Syntax, Limit, Duplicate, Undefined, FormFault, Functions, Text, Object, Function, Arguments, WriteFault, Memory}
 use Rattle.bk_top.specs.declared.refusal.RefusedFunc.{RefusedFunc}
-use Rattle.bk_top.specs.Commands.{CommandRecord, HasCode, compile_row, check_row, generate_row, run_row, evaluate_row, rules_row, Asks}
+use Rattle.bk_top.specs.Commands.{CommandRecord, compile_row, check_row, generate_row, run_row, evaluate_row, rules_row, Asks}
 use Rattle.bk_top.specs.Refusals.{status, line}
 use Rattle.bk_top.specs.Running.{Runs, LacksFunction, Misfits}
 use Rattle.bk_top.specs.Package.{ReadsAs, text_limit}
@@ -60,7 +60,7 @@ AreNamed p target rules refused = (rs : List FuncRefusal) × AreRefused p target
 
 -- what is told of a package whose functions have no frames
 abbrev pub IsFrameRefusal : PackageRecord → Target → Refusal → Type 0
-IsFrameRefusal p target (Functions refused) = HasCode target × AreNamed p target [] refused.items
+IsFrameRefusal p target (Functions refused) = AreNamed p target [] refused.items
 IsFrameRefusal p target Memory = Unit {0}
 IsFrameRefusal p target refusal = ⊥
 
@@ -145,7 +145,7 @@ HasRefused (compile_row r) rules text refused = Refuses r.target rules text refu
 HasRefused (check_row target) rules text refused = ⊥
 HasRefused (generate_row n) rules text refused = ⊥
 HasRefused (run_row call) rules text refused = ⊥
-HasRefused (evaluate_row target call) rules text refused = HasCode target × Refuses target [] text refused
+HasRefused (evaluate_row target call) rules text refused = Refuses target [] text refused
 HasRefused rules_row rules text refused = ⊥
 
 -- the command makes code that is too long

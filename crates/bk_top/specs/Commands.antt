@@ -76,14 +76,9 @@ SpellsArgument word = (z : ℤ) × IsArgument z × (word ≡ signed_decimal z)
 abbrev pub IsCall : CallRecord → Type 0
 IsCall c = (c.bound < 2 ^ 64) × All SpellsArgument c.args
 
--- the targets that code is made for
-abbrev pub HasCode : Target → Type 0
-HasCode Arm = ⊥
-HasCode Riscv64 = Unit {0}
-
 -- the numbers of a command are in their ranges
 abbrev pub IsInRange : CommandRecord → Type 0
-IsInRange (compile_row r) = HasCode r.target × (1 ≤ r.workers) × (r.workers ≤ 64) × (length r.rules ≤ 1)
+IsInRange (compile_row r) = (1 ≤ r.workers) × (r.workers ≤ 64) × (length r.rules ≤ 1)
 IsInRange (check_row target) = Unit {0}
 IsInRange (generate_row n) = (1 ≤ n) × (n ≤ 4096)
 IsInRange (run_row call) = IsCall call

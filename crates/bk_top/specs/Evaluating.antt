@@ -1,7 +1,6 @@
 -- What `eval` tells: how a call of a function of a package ends.
 use Rattle.std.specs.Prelude.{◌≡◌, ℕ, ◌+◌, ◌-◌, ◌%◌, List, [], ◌∷◌, ◌++◌, length, take, replicate, slice_get, Some, None, Ok}
 use Rattle.bk_ops.specs.declared.types.Target.{Target}
-use Rattle.bk_ops.specs.declared.types.Target.TheVariants.{Arm, Riscv64}
 use Rattle.bk_func.specs.Records.{SigRecord, FuncRecord, VarRecord, PackageRecord}
 use Rattle.bk_func.specs.Meaning as mean
 use Rattle.bk_mean.specs.Eval.{function_named, program}
@@ -31,11 +30,6 @@ unfoldable pub window_of : List VarRecord → List ℕ
 window_of [] = []
 window_of (v ∷ vs) = filled (rounded v.size) v.bytes ++ window_of vs
 
--- the bytes of each function's frame: those of its code, or 16 where the target has none
-abbrev pub HaveFrames : Target → PackageRecord → List ℕ → Type 0
-HaveFrames Arm p frames = frames ≡ replicate (length p.funcs) 16
-HaveFrames Riscv64 p frames = AreFrames p Riscv64 frames
-
 -- how a call of the function at a place ends by the meaning of SSA: on the package's own data, with these frames
 abbrev pub ending : PackageRecord → Target → List ℕ → ℕ → List ℕ → ℕ → mean.Outcome × List ℕ
 ending p target frames place args bound = mean.meaning (program p target frames) place args (window_of p.vars) own_stack bound
@@ -53,7 +47,7 @@ pub record Evaluates (target : Target) (call : CallRecord) (text line : List ℕ
   pub pkg : PackageRecord
   pub reads : ReadsAs text target (Ok pkg)
   pub frames : List ℕ
-  pub framed : HaveFrames target pkg frames
+  pub framed : AreFrames pkg target frames
   pub place : ℕ
   pub func : FuncRecord
   pub named : function_named pkg call.name ≡ Some place
@@ -65,9 +59,9 @@ pub record Evaluates (target : Target) (call : CallRecord) (text line : List ℕ
 -- no function of the package that the text reads as has the name, and none is refused
 abbrev pub LacksNamed : Target → CallRecord → List ℕ → Type 0
 LacksNamed target call text =
-    (p : PackageRecord) × ReadsAs text target (Ok p) × ((frames : List ℕ) × HaveFrames target p frames) × (function_named p call.name ≡ None)
+    (p : PackageRecord) × ReadsAs text target (Ok p) × ((frames : List ℕ) × AreFrames p target frames) × (function_named p call.name ≡ None)
 
 -- the words give no numbers for the arguments of the package's function, and none is refused
 abbrev pub MisfitsNamed : Target → CallRecord → List ℕ → Type 0
 MisfitsNamed target call text =
-    (p : PackageRecord) × ReadsAs text target (Ok p) × ((frames : List ℕ) × HaveFrames target p frames) × (place : ℕ) × (f : FuncRecord) × (function_named p call.name ≡ Some place) × (slice_get p.funcs place ≡ Some f) × DoNotFit target f.sig.args call.args
+    (p : PackageRecord) × ReadsAs text target (Ok p) × ((frames : List ℕ) × AreFrames p target frames) × (place : ℕ) × (f : FuncRecord) × (function_named p call.name ≡ Some place) × (slice_get p.funcs place ≡ Some f) × DoNotFit target f.sig.args call.args

@@ -2,7 +2,7 @@
 
 ghost use Rattle.std.specs.Prelude.{◌≡◌, ◌↔◌, ◌<◌, ◌≤◌, ℕ, ◌∷◌, codes, length, map, string_bytes, IfSome, IfNone, IsTrue};
 ghost use Rattle.std.specs.Fmt.{decimal};
-ghost use Rattle.bk_top.specs.Commands.{CommandRecord, compile_row, seen, target_word, HasCode, Asks};
+ghost use Rattle.bk_top.specs.Commands.{CommandRecord, compile_row, seen, target_word, Asks};
 
 pub mod call;
 pub mod number;
@@ -63,17 +63,6 @@ fn target_of(word: &String) -> Option<Target>
     }
 }
 
-/// The target that a word names, if there is code for it.
-fn compiled_target_of(word: &String) -> Option<Target>
-    ensures found { IfSome result (λ target. (string_bytes word.now ≡ target_word target) × HasCode target) }
-    ensures none { IfNone result ((target : Target) → string_bytes word.now ≡ target_word target → HasCode target → ⊥) }
-{
-    match target_of(word)? {
-        Target::Riscv64 => Some(Target::Riscv64),
-        Target::Arm => None,
-    }
-}
-
 /// The count of threads that a word spells, 1 to 64.
 fn workers_of(word: &String) -> Option<u64>
     ensures found { IfSome result (λ n. (string_bytes word.now ≡ decimal n) × (1 ≤ n) × (n ≤ 64)) }
@@ -106,7 +95,7 @@ fn compile(others: &[String]) -> Option<Command<'_>>
 {
     match others {
         [target, workers, rules @ ..] => {
-            let target = compiled_target_of(target)?;
+            let target = target_of(target)?;
             let workers = workers_of(workers)?;
             request_of(target, workers, rules)
         }

@@ -4,9 +4,9 @@ ghost use Rattle.std.specs.Prelude.{◌≡◌, ◌++◌, ◌^◌, ◌<◌, ℕ, 
 ghost use Rattle.bk_mean.specs.Eval.{function_named, is_name, fit_at, AreFormed};
 ghost use Rattle.bk_mean.specs.Seen.{seen_outcome as meant};
 ghost use Rattle.bk_work.specs.Package.{AreFrames};
-ghost use Rattle.bk_top.specs.Commands.{HasCode, evaluate_row, seen_call};
+ghost use Rattle.bk_top.specs.Commands.{evaluate_row, seen_call};
 ghost use Rattle.bk_top.specs.Outcomes.{seen_outcome};
-ghost use Rattle.bk_top.specs.Evaluating.{rounded, filled, window_of, told_outcome, told, ending, line_of, HaveFrames, Evaluates};
+ghost use Rattle.bk_top.specs.Evaluating.{rounded, filled, window_of, told_outcome, told, ending, line_of, Evaluates};
 ghost use Rattle.bk_top.specs.Answer.{IsFrameRefusal, Spoils};
 
 use crate::command::call::Call;
@@ -20,9 +20,6 @@ use bk_mean::{EvalError, eval};
 use bk_ops::Target;
 use bk_work::{PackageError, frames_of};
 use std::alloc::{AllocError, Global};
-
-/// The bytes of each function's frame on a target without code.
-const FRAME: u32 = 16;
 
 /// The place of the first function with a name.
 fn place_of(pkg: &Package, name: &str) -> Option<usize>
@@ -85,17 +82,6 @@ fn outcome_of(end: bk_mean::Outcome) -> Outcome
 
 /// The bytes of each function's frame in its code.
 fn frames(alloc: Global, pkg: &Package, target: Target) -> Result<Vec<u32>, Refusal>
-    ensures frames { IfOk result (λ frames. HaveFrames target pkg.now frames.items) }
-    ensures cause { IfErr result (IsFrameRefusal pkg.now target) }
-{
-    match target {
-        Target::Arm => Ok(vec![in alloc; FRAME; pkg.funcs.len()]?),
-        Target::Riscv64 => code_frames(alloc, pkg, target),
-    }
-}
-
-fn code_frames(alloc: Global, pkg: &Package, target: Target) -> Result<Vec<u32>, Refusal>
-    requires { HasCode target }
     ensures frames { IfOk result (λ frames. AreFrames pkg.now target frames.items) }
     ensures cause { IfErr result (IsFrameRefusal pkg.now target) }
 {
