@@ -65,7 +65,6 @@ const TEXTS: [Row; 66] = [
     ),
     Row("", ADD, 2, "", "words\n"),
     Row("compile mips 1", ADD, 2, "", "words\n"),
-    Row("compile arm 1", ADD, 2, "", "words\n"),
     Row("compile arm 0", ADD, 2, "", "words\n"),
     Row("compile arm 65", ADD, 2, "", "words\n"),
     Row("compile riscv64", ADD, 2, "", "words\n"),
@@ -330,7 +329,7 @@ fn code(rt: HostRuntime) -> Result<(), Memory> {
 /// A package, a run of the object that is compiled from it, and what it tells.
 struct Compiled(&'static str, &'static str, &'static str);
 
-const COMPILED: [Compiled; 11] = [
+const COMPILED: [Compiled; 10] = [
     Compiled(ADD_AND_TWICE, "run twice 100 21", "returned 42\n"),
     Compiled(SWAP, "run swap 1000 3 10 20", "returned 20 10\n"),
     Compiled(CONSTANT, "run k 100", "returned 1311768467463790320\n"),
@@ -339,7 +338,6 @@ const COMPILED: [Compiled; 11] = [
         "run d 100 -2147483648 -1",
         "returned -2147483648\n",
     ),
-    Compiled(QUOTIENT, "run d 100 7 0", "returned -1\n"),
     Compiled(MOD, "run m 100 7 0", "returned 7\n"),
     Compiled(
         STORE,
@@ -367,11 +365,29 @@ const COMPILED: [Compiled; 11] = [
 #[test]
 fn compiled_runs(rt: HostRuntime) -> Result<(), Memory> {
     let alloc = rt.alloc();
-    for Compiled(text, words, out) in &COMPILED {
-        let object = answered(alloc, "compile riscv64 1", text.as_bytes(), NO_FAULT)?;
-        let left = answered(alloc, words, object.out.bytes(), NO_FAULT)?;
-        assert_eq!(rt; left.status, 0, "{words}");
-        assert_eq!(rt; left.out.bytes(), out.as_bytes(), "{words}");
+    for command in ["compile riscv64 1", "compile arm 1"] {
+        for Compiled(text, words, out) in &COMPILED {
+            let object = answered(alloc, command, text.as_bytes(), NO_FAULT)?;
+            let left = answered(alloc, words, object.out.bytes(), NO_FAULT)?;
+            assert_eq!(rt; left.status, 0, "{command}: {words}");
+            assert_eq!(rt; left.out.bytes(), out.as_bytes(), "{command}: {words}");
+        }
+    }
+    Ok(())
+}
+
+/// A quotient by 0 is what the machine's instruction gives.
+#[test]
+fn quotients_by_zero(rt: HostRuntime) -> Result<(), Memory> {
+    let alloc = rt.alloc();
+    let answers = [
+        ("compile riscv64 1", "returned -1\n"),
+        ("compile arm 1", "returned 0\n"),
+    ];
+    for (command, out) in answers {
+        let object = answered(alloc, command, QUOTIENT.as_bytes(), NO_FAULT)?;
+        let left = answered(alloc, "run d 100 7 0", object.out.bytes(), NO_FAULT)?;
+        assert_eq!(rt; left.out.bytes(), out.as_bytes(), "{command}");
     }
     Ok(())
 }
