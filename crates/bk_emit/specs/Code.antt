@@ -113,17 +113,25 @@ places_from at (w ∷ ws) = at ∷ places_from (at + w) ws
 abbrev pub distance : ℕ → ℕ → ℤ
 distance from to = pos 4 *ℤ (pos to -ℤ pos from)
 
--- the words of a line of so many words at a place; g gives the place of each block
-abbrev pub line_words : Forms → (ℕ → ℕ) → ℕ → ℕ → Line → List ℕ
-line_words m g at w (line.Word x) = x ∷ []
-line_words m g at w (line.Open p h x) = x ∷ []
-line_words m g at w (line.Jump n) = m.jump w (distance at (g n))
-line_words m g at w (line.Branch b n) = m.branch b w (distance at (g n))
+-- the place to which a line leads, 0 where it leads nowhere; g gives the place of each block
+abbrev pub goal_of : (ℕ → ℕ) → Line → ℕ
+goal_of g (line.Word x) = 0
+goal_of g (line.Open p h x) = 0
+goal_of g (line.Jump n) = g n
+goal_of g (line.Branch b n) = g n
 
+-- the words of a line of so many words that leads over a distance
+abbrev pub line_words : Forms → ℕ → ℤ → Line → List ℕ
+line_words m w d (line.Word x) = x ∷ []
+line_words m w d (line.Open p h x) = x ∷ []
+line_words m w d (line.Jump n) = m.jump w d
+line_words m w d (line.Branch b n) = m.branch b w d
+
+-- the words of lines of so many words each, the first of which stands at a place
 abbrev pub words_from : Forms → (ℕ → ℕ) → ℕ → List ℕ → List Line → List ℕ
 words_from m g at [] ls = []
 words_from m g at (w ∷ ws) [] = []
-words_from m g at (w ∷ ws) (l ∷ ls) = line_words m g at w l ++ words_from m g (at + w) ws ls
+words_from m g at (w ∷ ws) (l ∷ ls) = line_words m w (distance at (goal_of g l)) l ++ words_from m g (at + w) ws ls
 
 -- what is patched, with the place of its first word
 abbrev pub waits : ℕ → Line → List (ℕ × Patch × Handle)

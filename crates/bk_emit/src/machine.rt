@@ -53,7 +53,7 @@ pub trait Machine {
         regs: Regs,
         frame: u32,
     ) -> Result<(), AllocError>
-        ensures { OnOk result (lines.new.items ≡ lines.old.items ++ forms.unit (seen entry) regs frame) };
+        ensures { OnOk result (lines.new.items ≡ lines.old.items ++ forms.unit (seen entry.entry) regs frame) };
 
     /// Adds a test of the low bit of a register, for the branch behind it.
     fn put_test(lines: &mut Vec<Line>, control: u8) -> Result<(), AllocError>

@@ -1,6 +1,6 @@
 // The words of lines once branches have sizes.
 ghost use Rattle.std.specs.Prelude.{◌≡◌, ◌++◌, ◌^◌, ◌≤ℤ◌, pos, neg_ℤ, length, slice_index, IfOk, OnOk};
-ghost use Rattle.bk_emit.specs.Code.{line_words, words_from, waits, waits_from, distance};
+ghost use Rattle.bk_emit.specs.Code.{line_words, words_from, waits, waits_from, goal_of, distance};
 ghost use Rattle.bk_emit.specs.Tables.{line_of};
 
 use crate::layout::{Lines, next_place};
@@ -22,36 +22,41 @@ pub(crate) fn code_of<M: Machine>(
     let mut code = Vec::new(alloc);
     let mut place = 0;
     for (index, width) in widths.iter().enumerate() {
-        put_line::<M>(&mut code, lines, places, lines.lines[index], place, *width)?;
+        let line = lines.lines[index];
+        let goal = goal_of(lines, places, line);
+        put_line::<M>(&mut code, line, *width, distance(place, goal))?;
         place = next_place(place, *width)?;
     }
     Ok(code)
 }
 
-/// Adds the words of a line.
+/// Adds the words of a line that leads over so many bytes.
 fn put_line<M: Machine>(
     code: &mut Vec<u32>,
-    lines: &Lines,
-    places: &[u32],
     line: Line,
-    place: u32,
     width: u8,
+    distance: i64,
 ) -> Result<(), AllocError>
-    ensures { OnOk result (code.new.items ≡ code.old.items ++ line_words M.forms (λ n. slice_index places.now (line_of lines.now.starts n)) place width line) }
+    requires { neg_ℤ (pos (2 ^ 40)) ≤ℤ distance }
+    ensures { OnOk result (code.new.items ≡ code.old.items ++ line_words M.forms width distance line) }
 {
     match line {
         Line::Word(word) | Line::Open(_, _, word) => {
             code.push(word)?;
             Ok(())
         }
-        Line::Jump(block) => {
-            let target = place_of(lines, places, block);
-            M::put_jump(code, width, distance(place, target))
-        }
-        Line::Branch(bit, block) => {
-            let target = place_of(lines, places, block);
-            M::put_branch(code, bit, width, distance(place, target))
-        }
+        Line::Jump(_) => M::put_jump(code, width, distance),
+        Line::Branch(bit, _) => M::put_branch(code, bit, width, distance),
+    }
+}
+
+/// The place to which a line leads, 0 where it leads nowhere.
+fn goal_of(lines: &Lines, places: &[u32], line: Line) -> u32
+    ensures { result ≡ goal_of (λ n. slice_index places.now (line_of lines.now.starts n)) line }
+{
+    match line {
+        Line::Jump(block) | Line::Branch(_, block) => place_of(lines, places, block),
+        Line::Word(_) | Line::Open(..) => 0,
     }
 }
 

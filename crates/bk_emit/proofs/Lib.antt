@@ -1,0 +1,4 @@
+pub mod Assembled
+pub mod Branches
+pub mod Drawing
+pub mod Entries
