@@ -120,18 +120,18 @@ goal_of g (line.Open p h x) = 0
 goal_of g (line.Jump n) = g n
 goal_of g (line.Branch b n) = g n
 
--- the words of a line of so many words that leads over a distance
-abbrev pub line_words : Forms → ℕ → ℤ → Line → List ℕ
-line_words m w d (line.Word x) = x ∷ []
-line_words m w d (line.Open p h x) = x ∷ []
-line_words m w d (line.Jump n) = m.jump w d
-line_words m w d (line.Branch b n) = m.branch b w d
+-- the words of a line of so many words at a place, which leads to another place
+abbrev pub line_words : Forms → ℕ → ℕ → ℕ → Line → List ℕ
+line_words m at w goal (line.Word x) = x ∷ []
+line_words m at w goal (line.Open p h x) = x ∷ []
+line_words m at w goal (line.Jump n) = m.jump w (distance at goal)
+line_words m at w goal (line.Branch b n) = m.branch b w (distance at goal)
 
 -- the words of lines of so many words each, the first of which stands at a place
 abbrev pub words_from : Forms → (ℕ → ℕ) → ℕ → List ℕ → List Line → List ℕ
 words_from m g at [] ls = []
 words_from m g at (w ∷ ws) [] = []
-words_from m g at (w ∷ ws) (l ∷ ls) = line_words m w (distance at (goal_of g l)) l ++ words_from m g (at + w) ws ls
+words_from m g at (w ∷ ws) (l ∷ ls) = line_words m at w (goal_of g l) l ++ words_from m g (at + w) ws ls
 
 -- what is patched, with the place of its first word
 abbrev pub waits : ℕ → Line → List (ℕ × Patch × Handle)

@@ -24,29 +24,29 @@ pub(crate) fn code_of<M: Machine>(
     for (index, width) in widths.iter().enumerate() {
         let line = lines.lines[index];
         let goal = goal_of(lines, places, line);
-        put_line::<M>(&mut code, line, *width, distance(place, goal))?;
+        put_line::<M>(&mut code, line, place, *width, goal)?;
         place = next_place(place, *width)?;
     }
     Ok(code)
 }
 
-/// Adds the words of a line that leads over so many bytes.
+/// Adds the words of a line of so many words at a place, which leads to another place.
 fn put_line<M: Machine>(
     code: &mut Vec<u32>,
     line: Line,
+    place: u32,
     width: u8,
-    distance: i64,
+    goal: u32,
 ) -> Result<(), AllocError>
-    requires { neg_ℤ (pos (2 ^ 40)) ≤ℤ distance }
-    ensures { OnOk result (code.new.items ≡ code.old.items ++ line_words M.forms width distance line) }
+    ensures { OnOk result (code.new.items ≡ code.old.items ++ line_words M.forms place width goal line) }
 {
     match line {
         Line::Word(word) | Line::Open(_, _, word) => {
             code.push(word)?;
             Ok(())
         }
-        Line::Jump(_) => M::put_jump(code, width, distance),
-        Line::Branch(bit, _) => M::put_branch(code, bit, width, distance),
+        Line::Jump(_) => M::put_jump(code, width, distance(place, goal)),
+        Line::Branch(bit, _) => M::put_branch(code, bit, width, distance(place, goal)),
     }
 }
 
