@@ -1,0 +1,6 @@
+pub mod Blocks
+pub mod Insts
+pub mod Lines
+pub mod Units
+pub mod Words
+pub mod Written
