@@ -1,4 +1,5 @@
 pub mod Blocks
+pub mod Code
 pub mod Insts
 pub mod Lines
 pub mod Units

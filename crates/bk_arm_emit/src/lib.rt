@@ -4,6 +4,10 @@
 mod blocks;
 mod insts;
 mod lines;
+mod machine;
 mod units;
 mod words;
 mod written;
+
+pub use bk_emit::{Handle, Memory, Patch, Piece};
+pub use machine::{Arm, emit};

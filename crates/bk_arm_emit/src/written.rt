@@ -13,7 +13,7 @@ pub(crate) fn sizes_of(alloc: Global, branches: &[Branch]) -> Result<Vec<u8>, Al
     ensures { IfOk result (λ sizes. spec.AreSingle branches.now sizes.items) }
 {
     let mut sizes = Vec::with_capacity(alloc, branches.len())?;
-    for _branch in branches {
+    for branch in branches {
         sizes.push(1)?;
     }
     Ok(sizes)

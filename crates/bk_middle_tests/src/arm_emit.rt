@@ -347,7 +347,7 @@ const BLOCKS: [u32; 35] = [
 
 /// A slot near the stack pointer, a far one, and the moves of an edge.
 fn moves(alloc: Global) -> Result<Vec<Step>, AllocError> {
-    vec![in alloc;
+    Ok(vec![in alloc;
         Step::Load { reg: 6, slot: 0 },
         Step::Store { reg: 6, slot: 1 },
         Step::Move { from: Loc::Reg(6), to: Loc::Reg(0) },
@@ -355,7 +355,7 @@ fn moves(alloc: Global) -> Result<Vec<Step>, AllocError> {
         Step::Move { from: Loc::Reg(1), to: Loc::Slot(1099) },
         Step::Move { from: Loc::Slot(0), to: Loc::Slot(1099) },
         Step::Move { from: Loc::Reg(2), to: Loc::Swap },
-    ]
+    ]?)
 }
 
 #[test]
