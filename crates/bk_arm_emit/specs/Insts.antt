@@ -48,13 +48,13 @@ abbrev pub number : ℕ → ℕ → List Inst
 number d n = i.Movw Al d (n % 2 ^ 16) ∷ (if high n == 0 then [] else i.Movt Al d (high n) ∷ [])
 
 -- of k rotations from r on the least by which n of 32 bits is a byte rotated right
-abbrev pub immediate_from : ℕ → ℕ → ℕ → Option Operand2
+unfoldable pub immediate_from : ℕ → ℕ → ℕ → Option Operand2
 immediate_from zero r n = None
 immediate_from (suc k) r n =
     if nat_lt (rotated 32 n (2 * r)) 256 then Some (Immediate (rotated 32 n (2 * r)) r) else immediate_from k (r + 1) n
 
 -- a number of 32 bits as an immediate with the least rotation
-unfoldable pub immediate : ℤ → Option Operand2
+abbrev pub immediate : ℤ → Option Operand2
 immediate z = immediate_from 16 0 (residue 32 z)
 
 abbrev pub data_if : Option Operand2 → DataOp → ℕ → ℕ → Inst

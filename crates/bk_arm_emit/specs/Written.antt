@@ -1,5 +1,5 @@
 -- The words of branches.
-use Rattle.std.specs.Prelude.{◌≡◌, ℕ, ℤ, pos, ◌-ℤ◌, int_div, Bool, true, false, if◌then◌else◌, List, [], ◌∷◌, map}
+use Rattle.std.specs.Prelude.{◌≡◌, ℕ, ℤ, pos, ◌-ℤ◌, int_div, Bool, true, false, if◌then◌else◌, List, [], ◌∷◌, length, replicate}
 use Rattle.bk_num.specs.Word.{fits_signed}
 use Rattle.bk_arm_isa.specs.declared.Condition.{Condition}
 use Rattle.bk_arm_isa.specs.declared.Condition.TheVariants.{Al, Eq, Ne}
@@ -11,7 +11,7 @@ use Rattle.bk_arm_emit.specs.Lines.{word_of}
 
 -- each branch has one word
 abbrev pub AreSingle : List Branch → List ℕ → Type 0
-AreSingle branches sizes = sizes ≡ map (λ b. 1) branches
+AreSingle branches sizes = sizes ≡ replicate (length branches) 1
 
 -- the words over which a branch of so many bytes goes: it counts from the second next instruction
 abbrev pub steps : ℤ → ℤ

@@ -87,17 +87,24 @@ pub(crate) fn skip(condition: Condition) -> Inst
 }
 
 /// A register and a number of 32 bits.
-#[tactic(auto, unfolding(crate::specs::Insts::immediate))]
 pub(crate) fn with_number(op: DataOp, rd: u8, rn: u8, number: i64) -> Inst
     ensures { result ≡ spec.with_number op rd rn number }
 {
-    match immediate_from(16, 0, residue(32, i128::from(number))) {
+    match immediate(number) {
         Some(operand2) => compute(op, rd, rn, operand2),
         None => fault(),
     }
 }
 
+/// A number of 32 bits as an immediate with the least rotation.
+fn immediate(number: i64) -> Option<Operand2>
+    ensures { result ≡ spec.immediate number }
+{
+    immediate_from(16, 0, residue(32, i128::from(number)))
+}
+
 /// The immediate that is a number, with the least of so many rotations from one on.
+#[tactic(auto, unfolding(crate::specs::Insts::immediate_from))]
 fn immediate_from(count: u8, rotation: u8, number: u64) -> Option<Operand2>
     requires { count + rotation ≤ 16 }
     ensures { result ≡ spec.immediate_from count rotation number }
@@ -145,11 +152,26 @@ pub(crate) fn load(width: u8, rt: u8, rn: u8, offset: u64) -> Inst
 {
     let condition = ALWAYS;
     if width == 4 && offset < 4096 {
-        Inst::Ldr { condition, rt, rn, imm12: offset as u16 }
+        Inst::Ldr {
+            condition,
+            rt,
+            rn,
+            imm12: offset as u16,
+        }
     } else if width == 2 && offset < 256 {
-        Inst::Ldrh { condition, rt, rn, imm8: offset as u8 }
+        Inst::Ldrh {
+            condition,
+            rt,
+            rn,
+            imm8: offset as u8,
+        }
     } else if width == 1 && offset < 4096 {
-        Inst::Ldrb { condition, rt, rn, imm12: offset as u16 }
+        Inst::Ldrb {
+            condition,
+            rt,
+            rn,
+            imm12: offset as u16,
+        }
     } else {
         fault()
     }
@@ -161,11 +183,26 @@ pub(crate) fn store(width: u8, rt: u8, rn: u8, offset: u64) -> Inst
 {
     let condition = ALWAYS;
     if width == 4 && offset < 4096 {
-        Inst::Str { condition, rt, rn, imm12: offset as u16 }
+        Inst::Str {
+            condition,
+            rt,
+            rn,
+            imm12: offset as u16,
+        }
     } else if width == 2 && offset < 256 {
-        Inst::Strh { condition, rt, rn, imm8: offset as u8 }
+        Inst::Strh {
+            condition,
+            rt,
+            rn,
+            imm8: offset as u8,
+        }
     } else if width == 1 && offset < 4096 {
-        Inst::Strb { condition, rt, rn, imm12: offset as u16 }
+        Inst::Strb {
+            condition,
+            rt,
+            rn,
+            imm12: offset as u16,
+        }
     } else {
         fault()
     }
@@ -175,6 +212,10 @@ pub(crate) fn store(width: u8, rt: u8, rn: u8, offset: u64) -> Inst
 pub(crate) fn trap(number: i64) -> Inst
     ensures { result ≡ spec.trap number }
 {
-    let imm16 = if number >= 0 && number < 0x1_0000 { number as u16 } else { 0 };
+    let imm16 = if number >= 0 && number < 0x1_0000 {
+        number as u16
+    } else {
+        0
+    };
     Inst::Udf { imm16 }
 }

@@ -4,7 +4,8 @@ ghost use Rattle.bk_arm_emit.specs.Lines.{inst};
 ghost use Rattle.bk_arm_emit.specs.Units as spec;
 
 use crate::insts::{
-    by_count, byte, capped, copy, copy_if, compute, load, plain, skip, store, test, trap, with_number,
+    by_count, byte, capped, compute, copy, copy_if, load, plain, skip, store, test, trap,
+    with_number,
 };
 use crate::lines::{put, put_open};
 use crate::words::{put_load, put_number, put_store};
@@ -129,16 +130,54 @@ fn named(op: ArmOp, regs: Regs) -> Option<Inst>
     let condition = ALWAYS;
     let Regs { d, a, b, .. } = regs;
     match op {
-        ArmOp::Mul => Some(Inst::Mul { condition, rd: d, rn: a, rm: b }),
-        ArmOp::Smulh => Some(Inst::Smull { condition, rd_lo: SCRATCH, rd_hi: d, rn: a, rm: b }),
-        ArmOp::Umulh => Some(Inst::Umull { condition, rd_lo: SCRATCH, rd_hi: d, rn: a, rm: b }),
+        ArmOp::Mul => Some(Inst::Mul {
+            condition,
+            rd: d,
+            rn: a,
+            rm: b,
+        }),
+        ArmOp::Smulh => Some(Inst::Smull {
+            condition,
+            rd_lo: SCRATCH,
+            rd_hi: d,
+            rn: a,
+            rm: b,
+        }),
+        ArmOp::Umulh => Some(Inst::Umull {
+            condition,
+            rd_lo: SCRATCH,
+            rd_hi: d,
+            rn: a,
+            rm: b,
+        }),
         ArmOp::Sdiv => Some(signed_quotient(d, regs)),
         ArmOp::Udiv => Some(quotient(d, regs)),
-        ArmOp::Mvn => Some(Inst::Move { condition, op: MoveOp::Mvn, rd: d, operand2: plain(a) }),
-        ArmOp::Sxtb => Some(Inst::Sxtb { condition, rd: d, rm: a }),
-        ArmOp::Sxth => Some(Inst::Sxth { condition, rd: d, rm: a }),
-        ArmOp::Uxtb => Some(Inst::Uxtb { condition, rd: d, rm: a }),
-        ArmOp::Uxth => Some(Inst::Uxth { condition, rd: d, rm: a }),
+        ArmOp::Mvn => Some(Inst::Move {
+            condition,
+            op: MoveOp::Mvn,
+            rd: d,
+            operand2: plain(a),
+        }),
+        ArmOp::Sxtb => Some(Inst::Sxtb {
+            condition,
+            rd: d,
+            rm: a,
+        }),
+        ArmOp::Sxth => Some(Inst::Sxth {
+            condition,
+            rd: d,
+            rm: a,
+        }),
+        ArmOp::Uxtb => Some(Inst::Uxtb {
+            condition,
+            rd: d,
+            rm: a,
+        }),
+        ArmOp::Uxth => Some(Inst::Uxth {
+            condition,
+            rd: d,
+            rm: a,
+        }),
         _ => match data_op(op) {
             Some(op) => Some(compute(op, d, a, plain(b))),
             None => None,
@@ -379,11 +418,7 @@ fn put_store_bool(lines: &mut Vec<Line>, regs: Regs, int: i64) -> Result<(), All
 fn put_nil_check(lines: &mut Vec<Line>, a: u8) -> Result<(), AllocError>
     ensures { OnOk result (lines.new.items ≡ lines.old.items ++ map inst (spec.nil_check a)) }
 {
-    let insts = [
-        test(TestOp::Cmp, a, byte(0)),
-        skip(Condition::Ne),
-        trap(1),
-    ];
+    let insts = [test(TestOp::Cmp, a, byte(0)), skip(Condition::Ne), trap(1)];
     put(lines, &insts)
 }
 
@@ -435,12 +470,7 @@ fn put_chunks(
 
 /// Adds so many pieces of four bytes.
 #[tactic(auto, using(crate::proofs::Pieces::fours_more), unfolding(crate::specs::Units::fours))]
-fn put_fours(
-    lines: &mut Vec<Line>,
-    is_move: bool,
-    regs: Regs,
-    count: u64,
-) -> Result<(), AllocError>
+fn put_fours(lines: &mut Vec<Line>, is_move: bool, regs: Regs, count: u64) -> Result<(), AllocError>
     requires { count ≤ 2 ^ 30 }
     ensures { OnOk result (lines.new.items ≡ lines.old.items ++ map inst (spec.fours is_move regs count)) }
 {

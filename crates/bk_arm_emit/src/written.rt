@@ -12,11 +12,7 @@ use std::alloc::{AllocError, Global};
 pub(crate) fn sizes_of(alloc: Global, branches: &[Branch]) -> Result<Vec<u8>, AllocError>
     ensures { IfOk result (λ sizes. spec.AreSingle branches.now sizes.items) }
 {
-    let mut sizes = Vec::with_capacity(alloc, branches.len())?;
-    for branch in branches {
-        sizes.push(1)?;
-    }
-    Ok(sizes)
+    vec![in alloc; 1; branches.len()]
 }
 
 /// Adds the word of a jump over a distance in bytes.
@@ -57,9 +53,5 @@ fn branch_by(condition: Condition, distance: i64) -> Inst
 fn condition_of(bit: bool) -> Condition
     ensures { result ≡ spec.condition_of bit }
 {
-    if bit {
-        Condition::Ne
-    } else {
-        Condition::Eq
-    }
+    if bit { Condition::Ne } else { Condition::Eq }
 }

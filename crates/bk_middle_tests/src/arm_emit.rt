@@ -86,9 +86,11 @@ const WORDS: [u32; 116] = [
     // movw r2,#5
     0xe300_2005,
     // movw r2,#0x5678; movt r2,#0x1234
-    0xe305_2678, 0xe341_2234,
+    0xe305_2678,
+    0xe341_2234,
     // movw r2,#0xffff; movt r2,#0xffff
-    0xe30f_2fff, 0xe34f_2fff,
+    0xe30f_2fff,
+    0xe34f_2fff,
     // add r2,r0,r1
     0xe080_2001,
     // sub r2,r0,r1
@@ -110,29 +112,50 @@ const WORDS: [u32; 116] = [
     // udiv r2,r0,r1
     0xe732_f110,
     // sdiv r11,r0,r1; mls r2,r11,r1,r0
-    0xe71b_f110, 0xe062_019b,
+    0xe71b_f110,
+    0xe062_019b,
     // udiv r11,r0,r1; mls r2,r11,r1,r0
-    0xe73b_f110, 0xe062_019b,
+    0xe73b_f110,
+    0xe062_019b,
     // cmp r1,#256; mov r2,r0,lsl r1; movcs r2,#0
-    0xe351_0c01, 0xe1a0_2110, 0x23a0_2000,
+    0xe351_0c01,
+    0xe1a0_2110,
+    0x23a0_2000,
     // cmp r1,#256; mov r2,r0,lsr r1; movcs r2,#0
-    0xe351_0c01, 0xe1a0_2130, 0x23a0_2000,
+    0xe351_0c01,
+    0xe1a0_2130,
+    0x23a0_2000,
     // cmp r1,#256; mov r2,r0,asr r1; movcs r2,r2,asr #31
-    0xe351_0c01, 0xe1a0_2150, 0x21a0_2fc2,
+    0xe351_0c01,
+    0xe1a0_2150,
+    0x21a0_2fc2,
     // cmp r0,r1; mov r2,#0; moveq r2,#1
-    0xe150_0001, 0xe3a0_2000, 0x03a0_2001,
+    0xe150_0001,
+    0xe3a0_2000,
+    0x03a0_2001,
     // cmp r0,r1; mov r2,#0; movne r2,#1
-    0xe150_0001, 0xe3a0_2000, 0x13a0_2001,
+    0xe150_0001,
+    0xe3a0_2000,
+    0x13a0_2001,
     // cmp r0,r1; mov r2,#0; movlt r2,#1
-    0xe150_0001, 0xe3a0_2000, 0xb3a0_2001,
+    0xe150_0001,
+    0xe3a0_2000,
+    0xb3a0_2001,
     // cmp r0,r1; mov r2,#0; movle r2,#1
-    0xe150_0001, 0xe3a0_2000, 0xd3a0_2001,
+    0xe150_0001,
+    0xe3a0_2000,
+    0xd3a0_2001,
     // cmp r0,r1; mov r2,#0; movcc r2,#1
-    0xe150_0001, 0xe3a0_2000, 0x33a0_2001,
+    0xe150_0001,
+    0xe3a0_2000,
+    0x33a0_2001,
     // cmp r0,r1; mov r2,#0; movls r2,#1
-    0xe150_0001, 0xe3a0_2000, 0x93a0_2001,
+    0xe150_0001,
+    0xe3a0_2000,
+    0x93a0_2001,
     // rsb r11,r1,#32; mov r2,r0,ror r11
-    0xe261_b020, 0xe1a0_2b70,
+    0xe261_b020,
+    0xe1a0_2b70,
     // rsb r2,r0,#0
     0xe260_2000,
     // mvn r2,r0
@@ -146,17 +169,26 @@ const WORDS: [u32; 116] = [
     // uxth r2,r0
     0xe6ff_2070,
     // cmp r0,#0; mov r2,#0; mvnne r2,#0
-    0xe350_0000, 0xe3a0_2000, 0x13e0_2000,
+    0xe350_0000,
+    0xe3a0_2000,
+    0x13e0_2000,
     // rbit r11,r0; clz r2,r11
-    0xe6ff_bf30, 0xe16f_2f1b,
+    0xe6ff_bf30,
+    0xe16f_2f1b,
     // clz r11,r0; rsb r2,r11,#32
-    0xe16f_bf10, 0xe26b_2020,
+    0xe16f_bf10,
+    0xe26b_2020,
     // tst r3,#1; mov r11,r1; movne r11,r0; mov r2,r11
-    0xe313_0001, 0xe1a0_b001, 0x11a0_b000, 0xe1a0_200b,
+    0xe313_0001,
+    0xe1a0_b001,
+    0x11a0_b000,
+    0xe1a0_200b,
     // cmn r3,r4; adc r2,r0,r1
-    0xe173_0004, 0xe0a0_2001,
+    0xe173_0004,
+    0xe0a0_2001,
     // cmp r3,r4; sbc r2,r0,r1
-    0xe153_0004, 0xe0c0_2001,
+    0xe153_0004,
+    0xe0c0_2001,
     // add r2,r0,#255
     0xe280_20ff,
     // add r2,r0,#0xff000000
@@ -192,23 +224,40 @@ const WORDS: [u32; 116] = [
     // strb r1,[r0,#3]
     0xe5c0_1003,
     // and r11,r1,#1; strb r11,[r0,#7]
-    0xe201_b001, 0xe5c0_b007,
+    0xe201_b001,
+    0xe5c0_b007,
     // movw r11,#0; str r11,[r0]; strh r11,[r0,#4]; strb r11,[r0,#6]
-    0xe300_b000, 0xe580_b000, 0xe1c0_b0b4, 0xe5c0_b006,
+    0xe300_b000,
+    0xe580_b000,
+    0xe1c0_b0b4,
+    0xe5c0_b006,
     // ldr r11,[r1]; str r11,[r0]; ldr r11,[r1,#4]; str r11,[r0,#4]; ldrh r11,[r1,#8]; strh r11,[r0,#8]; ldrb r11,[r1,#10]; strb r11,[r0,#10]
-    0xe591_b000, 0xe580_b000, 0xe591_b004, 0xe580_b004, 0xe1d1_b0b8, 0xe1c0_b0b8, 0xe5d1_b00a, 0xe5c0_b00a,
+    0xe591_b000,
+    0xe580_b000,
+    0xe591_b004,
+    0xe580_b004,
+    0xe1d1_b0b8,
+    0xe1c0_b0b8,
+    0xe5d1_b00a,
+    0xe5c0_b00a,
     // cmp r0,#0; bne over; udf #1
-    0xe350_0000, 0x1a00_0000, 0xe7f0_00f1,
+    0xe350_0000,
+    0x1a00_0000,
+    0xe7f0_00f1,
     // ldr r2,[sp,#24]
     0xe59d_2018,
     // ldr r2,[sp,#4092]
     0xe59d_2ffc,
     // movw r14,#4096; add r14,r14,sp; ldr r2,[r14]
-    0xe301_e000, 0xe08e_e00d, 0xe59e_2000,
+    0xe301_e000,
+    0xe08e_e00d,
+    0xe59e_2000,
     // str r0,[sp,#28]
     0xe58d_001c,
     // movw r14,#4112; add r14,r14,sp; str r0,[r14]
-    0xe301_e010, 0xe08e_e00d, 0xe58e_0000,
+    0xe301_e010,
+    0xe08e_e00d,
+    0xe58e_0000,
     // ldr r2,[sp,#4]
     0xe59d_2004,
     // str r0,[sp,#8]
@@ -350,11 +399,26 @@ fn moves(alloc: Global) -> Result<Vec<Step>, AllocError> {
     Ok(vec![in alloc;
         Step::Load { reg: 6, slot: 0 },
         Step::Store { reg: 6, slot: 1 },
-        Step::Move { from: Loc::Reg(6), to: Loc::Reg(0) },
-        Step::Move { from: Loc::Slot(1000), to: Loc::Reg(1) },
-        Step::Move { from: Loc::Reg(1), to: Loc::Slot(1099) },
-        Step::Move { from: Loc::Slot(0), to: Loc::Slot(1099) },
-        Step::Move { from: Loc::Reg(2), to: Loc::Swap },
+        Step::Move {
+            from: Loc::Reg(6),
+            to: Loc::Reg(0)
+        },
+        Step::Move {
+            from: Loc::Slot(1000),
+            to: Loc::Reg(1)
+        },
+        Step::Move {
+            from: Loc::Reg(1),
+            to: Loc::Slot(1099)
+        },
+        Step::Move {
+            from: Loc::Slot(0),
+            to: Loc::Slot(1099)
+        },
+        Step::Move {
+            from: Loc::Reg(2),
+            to: Loc::Swap
+        },
     ]?)
 }
 

@@ -51,7 +51,12 @@ pub(crate) fn func(alloc: Global, args: &[Ty], rows: &[ValueRow]) -> Result<Func
     })
 }
 
-pub(crate) fn done(alloc: Global, value: u32, args: &[u8], place: Option<u8>) -> Result<Step, AllocError> {
+pub(crate) fn done(
+    alloc: Global,
+    value: u32,
+    args: &[u8],
+    place: Option<u8>,
+) -> Result<Step, AllocError> {
     Ok(Step::Do {
         value,
         args: SmallVec::from_slice(alloc, args)?,
