@@ -1,5 +1,1 @@
-pub mod Assembled
-pub mod Branches
 pub mod Chunks
-pub mod Drawing
-pub mod Entries

@@ -2,7 +2,6 @@ pub mod Blocks
 pub mod Code
 pub mod Lines
 pub mod Numbers
-pub mod Tables
 pub mod Units
 pub mod Words
 pub mod Written

@@ -1,12 +1,13 @@
--- Lines of code.
-use Rattle.std.specs.Prelude.{Option, Some, None}
+-- Instructions as lines of code.
+use Rattle.std.specs.Prelude.{ℕ, unwrap_or}
 use Rattle.bk_rv_isa.specs.declared.inst.Inst.{Inst}
-use Rattle.bk_piece.specs.declared.Handle.{Handle}
-use Rattle.bk_piece.specs.declared.Patch.{Patch}
-use Rattle.bk_rv_emit.specs.declared.lines.Line.{Line}
-use Rattle.bk_rv_emit.specs.declared.lines.Line.TheVariants as line
+use Rattle.bk_rv_isa.specs.Encoding.{encoding}
+use Rattle.bk_emit.specs.declared.lines.Line.{Line}
+use Rattle.bk_emit.specs.declared.lines.Line.TheVariants as line
 
--- the first instruction of a unit that waits for the address of what the handle stands for
-abbrev pub opening : Patch → Option Handle → Inst → Line
-opening p (Some h) i = line.Open p h i
-opening p None i = line.Inst i
+-- the word of an instruction, 0 where a field does not fit
+unfoldable pub word_of : Inst → ℕ
+word_of i = unwrap_or (encoding i) 0
+
+abbrev pub inst : Inst → Line
+inst i = line.Word (word_of i)

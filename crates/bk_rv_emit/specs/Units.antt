@@ -21,10 +21,10 @@ use Rattle.bk_rv_isa.specs.declared.inst.Inst.{Inst}
 use Rattle.bk_rv_isa.specs.declared.inst.Inst.TheVariants as i
 use Rattle.bk_piece.specs.declared.Handle.{Handle}
 use Rattle.bk_piece.specs.declared.Patch.TheVariants as patch
-use Rattle.bk_rv_emit.specs.declared.lines.Line.{Line}
-use Rattle.bk_rv_emit.specs.declared.lines.Line.TheVariants as line
-use Rattle.bk_rv_emit.specs.declared.units.Regs.{Regs}
-use Rattle.bk_rv_emit.specs.Lines.{opening}
+use Rattle.bk_emit.specs.declared.lines.Line.{Line}
+use Rattle.bk_emit.specs.declared.table.Regs.{Regs}
+use Rattle.bk_emit.specs.Lines.{opening}
+use Rattle.bk_rv_emit.specs.Lines.{inst, word_of}
 use Rattle.bk_rv_emit.specs.Numbers.{capped, upper, lower}
 use Rattle.bk_rv_emit.specs.Words.{load_at, store_at}
 
@@ -161,18 +161,18 @@ machine_unit o w r c = machine_by (single o w r c) (several o r c)
 -- a constant: of 12 bits, of 32 bits, or at an address of the pool
 abbrev pub const_unit : ℕ → ℤ → Option Handle → List Line
 const_unit d c h =
-    if fits_signed 12 c then line.Inst (i.OpImm Addi d 0 c) ∷ []
-    else (if fits_signed 32 c then line.Inst (i.Lui d (upper c)) ∷ line.Inst (i.Addiw d d (lower c)) ∷ []
-    else opening patch.Pool h (i.Lui d (pos 0)) ∷ line.Inst (i.Load Ld d d (pos 0)) ∷ [])
+    if fits_signed 12 c then inst (i.OpImm Addi d 0 c) ∷ []
+    else (if fits_signed 32 c then inst (i.Lui d (upper c)) ∷ inst (i.Addiw d d (lower c)) ∷ []
+    else opening patch.Pool h (word_of (i.Lui d (pos 0))) ∷ inst (i.Load Ld d d (pos 0)) ∷ [])
 
 abbrev pub addr_unit : ℕ → Option Handle → List Line
-addr_unit d h = opening patch.Addr h (i.Lui d (pos 0)) ∷ line.Inst (i.OpImm Addi d d (pos 0)) ∷ []
+addr_unit d h = opening patch.Addr h (word_of (i.Lui d (pos 0))) ∷ inst (i.OpImm Addi d d (pos 0)) ∷ []
 
 abbrev pub call_unit : Option Handle → List Line
-call_unit h = opening patch.Call h (i.Auipc 31 (pos 0)) ∷ line.Inst (i.Jalr 1 31 (pos 0)) ∷ []
+call_unit h = opening patch.Call h (word_of (i.Auipc 31 (pos 0))) ∷ inst (i.Jalr 1 31 (pos 0)) ∷ []
 
 abbrev pub trap : ℤ → List Line
-trap n = line.Inst (i.OpImm Addi 31 0 n) ∷ line.Inst i.Ebreak ∷ []
+trap n = inst (i.OpImm Addi 31 0 n) ∷ inst i.Ebreak ∷ []
 
 -- the offset of the word with this number behind an offset from the stack pointer
 abbrev pub word_offset : ℕ → ℤ → ℕ
@@ -182,11 +182,11 @@ word_offset base w = base + 8 * capped (2 ^ 32) w
 unfoldable pub family_unit : Family → ℕ → Regs → ℤ → Option Handle → ℕ → List Line
 family_unit (op.Rv rv.Const) w r c h f = const_unit r.d c h
 family_unit (op.Rv rv.Addr) w r c h f = addr_unit r.d h
-family_unit (op.Rv o) w r c h f = map line.Inst (machine_unit o w r c)
-family_unit op.ArgWord w r c h f = map line.Inst (load_at r.d (word_offset f c))
-family_unit op.RetWord w r c h f = map line.Inst (store_at r.a (word_offset f c))
-family_unit op.ResWord w r c h f = map line.Inst (load_at r.d (word_offset 0 c))
-family_unit op.OutWord w r c h f = map line.Inst (store_at r.a (word_offset 0 c))
+family_unit (op.Rv o) w r c h f = map inst (machine_unit o w r c)
+family_unit op.ArgWord w r c h f = map inst (load_at r.d (word_offset f c))
+family_unit op.RetWord w r c h f = map inst (store_at r.a (word_offset f c))
+family_unit op.ResWord w r c h f = map inst (load_at r.d (word_offset 0 c))
+family_unit op.OutWord w r c h f = map inst (store_at r.a (word_offset 0 c))
 family_unit op.Call w r c h f = call_unit h
 family_unit op.CallRegs w r c h f = call_unit h
 family_unit op.Trap w r c h f = trap c

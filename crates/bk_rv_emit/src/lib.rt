@@ -2,14 +2,11 @@
 #![tactic(auto)]
 
 mod blocks;
-mod layout;
 mod lines;
-mod pieces;
-mod table;
+mod machine;
 mod units;
 mod words;
 mod written;
 
-pub use bk_func::Memory;
-pub use bk_piece::{Handle, Patch, Piece};
-pub use pieces::emit;
+pub use bk_emit::{Handle, Memory, Patch, Piece};
+pub use machine::{Riscv64, emit};

@@ -1,29 +1,18 @@
-// Lines of code: instructions, and branches that have no size yet.
+// Lines of instructions.
 ghost use Rattle.std.specs.Prelude.{◌≡◌, ◌++◌, ◌∷◌, [], map, OnOk};
-ghost use Rattle.bk_rv_emit.specs.Lines.{opening};
+ghost use Rattle.bk_emit.specs.Lines.{opening};
+ghost use Rattle.bk_rv_emit.specs.Lines as spec;
 
-use bk_piece::{Handle, Patch};
-use bk_rv_isa::{BranchOp, Inst};
+use bk_emit::{Handle, Line, Patch, opening};
+use bk_rv_isa::{Inst, encode};
 use std::alloc::AllocError;
-
-/// A line of code.
-#[derive(Clone, Copy)]
-pub enum Line {
-    Inst(Inst),
-    /// The first instruction of a unit that waits for an address.
-    Open(Patch, Handle, Inst),
-    /// To the block with this number.
-    Jump(u32),
-    /// To the block with this number, where register 31 compares so with 0.
-    Branch(BranchOp, u32),
-}
 
 /// Adds instructions.
 pub(crate) fn put(lines: &mut Vec<Line>, insts: &[Inst]) -> Result<(), AllocError>
-    ensures { OnOk result (lines.new.items ≡ lines.old.items ++ map Line.Inst insts.now) }
+    ensures { OnOk result (lines.new.items ≡ lines.old.items ++ map spec.inst insts.now) }
 {
     for inst in insts {
-        lines.push(Line::Inst(*inst))?;
+        lines.push(Line::Word(word_of(*inst)))?;
     }
     Ok(())
 }
@@ -36,18 +25,17 @@ pub(crate) fn put_open(
     first: Inst,
     second: Inst,
 ) -> Result<(), AllocError>
-    ensures { OnOk result (lines.new.items ≡ lines.old.items ++ opening patch handle first ∷ Line.Inst second ∷ []) }
+    ensures { OnOk result (lines.new.items ≡ lines.old.items ++ opening patch handle (spec.word_of first) ∷ spec.inst second ∷ []) }
 {
-    lines.push(opening(patch, handle, first))?;
-    lines.push(Line::Inst(second))?;
+    lines.push(opening(patch, handle, word_of(first)))?;
+    lines.push(Line::Word(word_of(second)))?;
     Ok(())
 }
 
-fn opening(patch: Patch, handle: Option<Handle>, inst: Inst) -> Line
-    ensures { result ≡ opening patch handle inst }
+/// The word of an instruction, 0 for one that has none.
+#[tactic(auto, unfolding(crate::specs::Lines::word_of))]
+pub(crate) fn word_of(inst: Inst) -> u32
+    ensures { result ≡ spec.word_of inst }
 {
-    match handle {
-        Some(handle) => Line::Open(patch, handle, inst),
-        None => Line::Inst(inst),
-    }
+    encode(inst).unwrap_or(0)
 }

@@ -1,24 +1,16 @@
 // The units of instructions of the ops.
 ghost use Rattle.std.specs.Prelude.{◌≡◌, ◌+◌, ◌*◌, ◌/◌, ◌%◌, ◌^◌, ◌<◌, ◌≤◌, ◌++◌, ◌∷◌, [], map, OnOk};
 ghost use Rattle.bk_rv_emit.specs.Numbers as numbers;
+ghost use Rattle.bk_rv_emit.specs.Lines.{inst};
 ghost use Rattle.bk_rv_emit.specs.Units as spec;
 
-use crate::lines::{Line, put, put_open};
+use crate::lines::{put, put_open};
 use crate::words::{put_load, put_store};
+use bk_emit::{Handle, Line, Patch, Regs};
 use bk_num::{residue, sext};
 use bk_ops::{Family, Op, RvOp};
-use bk_piece::{Handle, Patch};
 use bk_rv_isa::{BranchOp, ImmediateOp, Inst, LoadOp, RegisterOp, ShiftOp, StoreOp};
 use std::alloc::AllocError;
-
-/// The registers of a unit: that of the result, and those of the first arguments.
-#[derive(Clone, Copy)]
-pub struct Regs {
-    pub d: u8,
-    pub a: u8,
-    pub b: u8,
-    pub c: u8,
-}
 
 /// The register that is free inside a unit.
 pub(crate) const SCRATCH: u8 = 31;
@@ -138,7 +130,7 @@ fn put_machine(
     regs: Regs,
     int: i64,
 ) -> Result<(), AllocError>
-    ensures { OnOk result (lines.new.items ≡ lines.old.items ++ map Line.Inst (spec.machine_unit op width regs int)) }
+    ensures { OnOk result (lines.new.items ≡ lines.old.items ++ map inst (spec.machine_unit op width regs int)) }
 {
     match single(op, width, regs, int) {
         Some(inst) => put(lines, &[inst]),
@@ -245,7 +237,7 @@ fn store_op(width: u8) -> StoreOp
 /// Adds the unit of a machine op of several instructions.
 #[tactic(auto, unfolding(crate::specs::Units::several))]
 fn put_several(lines: &mut Vec<Line>, op: RvOp, regs: Regs, int: i64) -> Result<(), AllocError>
-    ensures { OnOk result (lines.new.items ≡ lines.old.items ++ map Line.Inst (spec.several op regs int)) }
+    ensures { OnOk result (lines.new.items ≡ lines.old.items ++ map inst (spec.several op regs int)) }
 {
     match op {
         RvOp::Lsl => put_shift(lines, RegisterOp::Sll, regs),
@@ -263,7 +255,7 @@ fn put_several(lines: &mut Vec<Line>, op: RvOp, regs: Regs, int: i64) -> Result<
 
 /// A shift that gives 0 at counts of 64 and above.
 fn put_shift(lines: &mut Vec<Line>, op: RegisterOp, regs: Regs) -> Result<(), AllocError>
-    ensures { OnOk result (lines.new.items ≡ lines.old.items ++ map Line.Inst (spec.shift op regs)) }
+    ensures { OnOk result (lines.new.items ≡ lines.old.items ++ map inst (spec.shift op regs)) }
 {
     let insts = [
         Inst::OpImm(ImmediateOp::Sltiu, SCRATCH, regs.b, 64),
@@ -276,7 +268,7 @@ fn put_shift(lines: &mut Vec<Line>, op: RegisterOp, regs: Regs) -> Result<(), Al
 
 /// A shift that gives the sign fill at counts of 64 and above.
 fn put_sign_shift(lines: &mut Vec<Line>, regs: Regs) -> Result<(), AllocError>
-    ensures { OnOk result (lines.new.items ≡ lines.old.items ++ map Line.Inst (spec.sign_shift regs)) }
+    ensures { OnOk result (lines.new.items ≡ lines.old.items ++ map inst (spec.sign_shift regs)) }
 {
     let insts = [
         Inst::OpImm(ImmediateOp::Sltiu, SCRATCH, regs.b, 64),
@@ -288,7 +280,7 @@ fn put_sign_shift(lines: &mut Vec<Line>, regs: Regs) -> Result<(), AllocError>
 }
 
 fn put_rotation(lines: &mut Vec<Line>, regs: Regs) -> Result<(), AllocError>
-    ensures { OnOk result (lines.new.items ≡ lines.old.items ++ map Line.Inst (spec.rotation regs)) }
+    ensures { OnOk result (lines.new.items ≡ lines.old.items ++ map inst (spec.rotation regs)) }
 {
     let insts = [
         Inst::Op(RegisterOp::Sub, SCRATCH, 0, regs.b),
@@ -300,7 +292,7 @@ fn put_rotation(lines: &mut Vec<Line>, regs: Regs) -> Result<(), AllocError>
 }
 
 fn put_choice(lines: &mut Vec<Line>, regs: Regs) -> Result<(), AllocError>
-    ensures { OnOk result (lines.new.items ≡ lines.old.items ++ map Line.Inst (spec.choice regs)) }
+    ensures { OnOk result (lines.new.items ≡ lines.old.items ++ map inst (spec.choice regs)) }
 {
     let insts = [
         Inst::OpImm(ImmediateOp::Andi, SCRATCH, regs.c, 1),
@@ -314,7 +306,7 @@ fn put_choice(lines: &mut Vec<Line>, regs: Regs) -> Result<(), AllocError>
 }
 
 fn put_store_bool(lines: &mut Vec<Line>, regs: Regs, int: i64) -> Result<(), AllocError>
-    ensures { OnOk result (lines.new.items ≡ lines.old.items ++ map Line.Inst (spec.store_bool regs int)) }
+    ensures { OnOk result (lines.new.items ≡ lines.old.items ++ map inst (spec.store_bool regs int)) }
 {
     let insts = [
         Inst::OpImm(ImmediateOp::Andi, SCRATCH, regs.b, 1),
@@ -324,7 +316,7 @@ fn put_store_bool(lines: &mut Vec<Line>, regs: Regs, int: i64) -> Result<(), All
 }
 
 fn put_nil_check(lines: &mut Vec<Line>, a: u8) -> Result<(), AllocError>
-    ensures { OnOk result (lines.new.items ≡ lines.old.items ++ map Line.Inst (spec.nil_check a)) }
+    ensures { OnOk result (lines.new.items ≡ lines.old.items ++ map inst (spec.nil_check a)) }
 {
     let insts = [
         Inst::Branch(BranchOp::Bne, a, 0, 12),
@@ -355,7 +347,7 @@ fn put_chunks(
     bytes: u64,
 ) -> Result<(), AllocError>
     requires { bytes ≤ 2 ^ 32 }
-    ensures { OnOk result (lines.new.items ≡ lines.old.items ++ map Line.Inst (spec.chunks is_move regs bytes)) }
+    ensures { OnOk result (lines.new.items ≡ lines.old.items ++ map inst (spec.chunks is_move regs bytes)) }
 {
     put_eights(lines, is_move, regs, bytes / 8)?;
     put_chunk_if(bytes % 8 >= 4, lines, is_move, regs, 4, bytes / 8 * 8)?;
@@ -372,7 +364,7 @@ fn put_eights(
     count: u64,
 ) -> Result<(), AllocError>
     requires { count ≤ 2 ^ 30 }
-    ensures { OnOk result (lines.new.items ≡ lines.old.items ++ map Line.Inst (spec.eights is_move regs count)) }
+    ensures { OnOk result (lines.new.items ≡ lines.old.items ++ map inst (spec.eights is_move regs count)) }
 {
     for place in 0..count {
         put_chunk(lines, is_move, regs, 8, 8 * place)?;
@@ -389,7 +381,7 @@ fn put_chunk_if(
     offset: u64,
 ) -> Result<(), AllocError>
     requires { offset ≤ 2 ^ 33 }
-    ensures { OnOk result (lines.new.items ≡ lines.old.items ++ map Line.Inst (spec.chunk_if there is_move regs width offset)) }
+    ensures { OnOk result (lines.new.items ≡ lines.old.items ++ map inst (spec.chunk_if there is_move regs width offset)) }
 {
     if there {
         put_chunk(lines, is_move, regs, width, offset)?;
@@ -405,7 +397,7 @@ fn put_chunk(
     offset: u64,
 ) -> Result<(), AllocError>
     requires { offset ≤ 2 ^ 33 }
-    ensures { OnOk result (lines.new.items ≡ lines.old.items ++ map Line.Inst (spec.chunk is_move regs width offset)) }
+    ensures { OnOk result (lines.new.items ≡ lines.old.items ++ map inst (spec.chunk is_move regs width offset)) }
 {
     let offset = offset as i64;
     if is_move {

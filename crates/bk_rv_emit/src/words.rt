@@ -1,9 +1,11 @@
 // Words of the frame, near the stack pointer and far from it.
 ghost use Rattle.std.specs.Prelude.{◌≡◌, ◌++◌, ◌≤◌, ◌^◌, map, OnOk};
+ghost use Rattle.bk_rv_emit.specs.Lines.{inst};
 ghost use Rattle.bk_rv_emit.specs.Words as spec;
 
-use crate::lines::{Line, put};
+use crate::lines::put;
 use crate::units::{STACK, lower, upper};
+use bk_emit::Line;
 use bk_rv_isa::{Inst, LoadOp, RegisterOp, StoreOp};
 use std::alloc::AllocError;
 
@@ -16,7 +18,7 @@ const FREE: u8 = 1;
 /// Adds the load of a register from the word at this offset from the stack pointer.
 pub(crate) fn put_load(lines: &mut Vec<Line>, reg: u8, offset: u64) -> Result<(), AllocError>
     requires { offset ≤ 2 ^ 40 }
-    ensures { OnOk result (lines.new.items ≡ lines.old.items ++ map Line.Inst (spec.load_at reg offset)) }
+    ensures { OnOk result (lines.new.items ≡ lines.old.items ++ map inst (spec.load_at reg offset)) }
 {
     put_load_by(lines, FREE, reg, offset)
 }
@@ -24,7 +26,7 @@ pub(crate) fn put_load(lines: &mut Vec<Line>, reg: u8, offset: u64) -> Result<()
 /// Adds the store of a register to the word at this offset from the stack pointer.
 pub(crate) fn put_store(lines: &mut Vec<Line>, reg: u8, offset: u64) -> Result<(), AllocError>
     requires { offset ≤ 2 ^ 40 }
-    ensures { OnOk result (lines.new.items ≡ lines.old.items ++ map Line.Inst (spec.store_at reg offset)) }
+    ensures { OnOk result (lines.new.items ≡ lines.old.items ++ map inst (spec.store_at reg offset)) }
 {
     put_store_by(lines, FREE, reg, offset)
 }
@@ -37,7 +39,7 @@ pub(crate) fn put_load_by(
     offset: u64,
 ) -> Result<(), AllocError>
     requires { offset ≤ 2 ^ 40 }
-    ensures { OnOk result (lines.new.items ≡ lines.old.items ++ map Line.Inst (spec.load_by by reg offset)) }
+    ensures { OnOk result (lines.new.items ≡ lines.old.items ++ map inst (spec.load_by by reg offset)) }
 {
     let near = offset as i64;
     if offset < FAR {
@@ -59,7 +61,7 @@ pub(crate) fn put_store_by(
     offset: u64,
 ) -> Result<(), AllocError>
     requires { offset ≤ 2 ^ 40 }
-    ensures { OnOk result (lines.new.items ≡ lines.old.items ++ map Line.Inst (spec.store_by by reg offset)) }
+    ensures { OnOk result (lines.new.items ≡ lines.old.items ++ map inst (spec.store_by by reg offset)) }
 {
     let near = offset as i64;
     if offset < FAR {

@@ -1,5 +1,5 @@
 use Rattle.std.proofs.Common.{◌≡◌, ◌++◌, map, drop}
-use Rattle.bk_rv_emit.specs.Written.{word_of}
+use Rattle.bk_rv_emit.specs.Lines.{word_of}
 use Rattle.bk_rv_emit.proofs.written.put_insts.Given as goal
 
 abbrev pub invariant-loop-inst : goal.invariant-loop-inst

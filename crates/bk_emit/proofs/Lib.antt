@@ -1,0 +1,5 @@
+pub mod Assembled
+pub mod Branches
+pub mod Drawing
+pub mod Entries
+pub mod Writing

@@ -1,9 +1,0 @@
-use Rattle.std.proofs.Common.{◌≡◌, ◌∙◌, length, rules}
-use Rattle.bk_rv_emit.specs.Tables.{line_of}
-use Rattle.bk_rv_emit.proofs.Branches.{branches_fit}
-use Rattle.bk_rv_emit.proofs.layout.Lines.sizes.Goals as goal
-
-pub branch_sizes-requires : goal.branch_sizes-requires
-branch_sizes-requires c =
-    let words : c.in_ok-words.words ≡ length c.args.self.now.lines.items = search rules in
-    branches_fit (line_of c.args.self.now.starts) c.args.self.now.lines.items c.deref.result.now c.in_ok-words.words (c.deref.ensures.value ∙ c.in_ok-branches.ensures) words

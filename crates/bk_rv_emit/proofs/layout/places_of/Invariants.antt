@@ -1,6 +1,0 @@
-use Rattle.std.proofs.Common.{◌≡◌, ◌++◌, drop}
-use Rattle.bk_rv_emit.specs.Code.{places_from}
-use Rattle.bk_rv_emit.proofs.layout.places_of.Given as goal
-
-abbrev pub invariant-loop-width : goal.invariant-loop-width
-invariant-loop-width l = l.places.items ++ places_from l.place (drop l.width-index l.widths) ≡ places_from 0 l.widths
