@@ -1,5 +1,5 @@
 -- Lists of instructions behind lines, one after the other.
-use Rattle.std.proofs.Common.{◌≡◌, ◌∙◌, sym, refl, ap, ℕ, suc, ◌+◌, ◌*◌, Bool, List, [], ◌∷◌, ◌++◌, map, append_assoc, arith}
+use Rattle.std.proofs.Common.{◌≡◌, ◌∙◌, refl, ap, ℕ, suc, ◌+◌, ◌*◌, Bool, List, ◌++◌, map, append_assoc, arith}
 use Rattle.std.proofs.lemmas.List.{map-append}
 use Rattle.bk_arm_isa.specs.declared.Inst.{Inst}
 use Rattle.bk_emit.specs.declared.lines.Line.{Line}
