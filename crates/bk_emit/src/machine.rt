@@ -74,12 +74,7 @@ pub trait Machine {
         ensures { OnOk result (code.new.items ≡ code.old.items ++ forms.jump size distance) };
 
     /// Adds the words of a branch of this size, where the bit that was tested is `bit`, over a distance in bytes.
-    fn put_branch(
-        code: &mut Vec<u32>,
-        bit: bool,
-        size: u8,
-        distance: i64,
-    ) -> Result<(), AllocError>
+    fn put_branch(code: &mut Vec<u32>, bit: bool, size: u8, distance: i64) -> Result<(), AllocError>
         requires { neg_ℤ (pos (2 ^ 40)) ≤ℤ distance }
         ensures { OnOk result (code.new.items ≡ code.old.items ++ forms.branch bit size distance) };
 }

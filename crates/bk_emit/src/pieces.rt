@@ -47,7 +47,12 @@ fn lines_of<M: Machine>(
     Lines::new::<M>(alloc, &placed.blocks, frame, &table.entries)
 }
 
-fn piece_of<M: Machine>(alloc: Global, lines: &Lines, frame: u32, types: &[Handle]) -> Result<Piece, Memory>
+fn piece_of<M: Machine>(
+    alloc: Global,
+    lines: &Lines,
+    frame: u32,
+    types: &[Handle],
+) -> Result<Piece, Memory>
     ensures written { IfOk result (λ piece. AreWritten M.forms (line_of lines.now.starts) lines.now.lines.items piece.code piece.handles) }
     ensures types { IfOk result (λ piece. piece.types ≡ types.now) }
     ensures frame { IfOk result (λ piece. piece.frame ≡ frame) }

@@ -1,6 +1,5 @@
 -- The forms of jumps and branches.
 use Rattle.std.specs.Prelude.{ℕ, ℤ, pos, ◌-ℤ◌, ◌==◌, Bool, not, if◌then◌else◌, List, [], ◌∷◌}
-use Rattle.bk_rv_isa.specs.declared.inst.BranchOp.{BranchOp}
 use Rattle.bk_rv_isa.specs.declared.inst.BranchOp.TheVariants.{Beq, Bne}
 use Rattle.bk_rv_isa.specs.declared.inst.Inst.{Inst}
 use Rattle.bk_rv_isa.specs.declared.inst.Inst.TheVariants as i
