@@ -6,18 +6,20 @@ use smallvec::SmallVec;
 use std::alloc::{AllocError, Global};
 use std::test::Fail;
 
-type ValueRow = (u32, Family, i64, Aux);
+/// A value by its number, op, AuxInt and aux.
+pub(crate) type ValueRow = (u32, Op, i64, Aux);
+
+/// An op with one width in its name, or none for 0.
+pub(crate) fn op(family: Family, a: u8) -> Op {
+    Op { family, a, b: 0 }
+}
 
 fn values(alloc: Global, rows: &[ValueRow]) -> Result<Vec<Value>, AllocError> {
     let mut values = Vec::new(alloc);
-    for (id, family, int, aux) in rows {
+    for (id, op, int, aux) in rows {
         values.push(Value {
             id: *id,
-            op: Op {
-                family: *family,
-                a: 0,
-                b: 0,
-            },
+            op: *op,
             ty: Ty::Int,
             args: SmallVec::new(alloc),
             int: *int,
@@ -28,7 +30,7 @@ fn values(alloc: Global, rows: &[ValueRow]) -> Result<Vec<Value>, AllocError> {
 }
 
 /// A function of one block with these values.
-fn func(alloc: Global, args: &[Ty], rows: &[ValueRow]) -> Result<Func, AllocError> {
+pub(crate) fn func(alloc: Global, args: &[Ty], rows: &[ValueRow]) -> Result<Func, AllocError> {
     let block = Block {
         id: 1,
         kind: Kind::Ret,
@@ -49,7 +51,12 @@ fn func(alloc: Global, args: &[Ty], rows: &[ValueRow]) -> Result<Func, AllocErro
     })
 }
 
-fn done(alloc: Global, value: u32, args: &[u8], place: Option<u8>) -> Result<Step, AllocError> {
+pub(crate) fn done(
+    alloc: Global,
+    value: u32,
+    args: &[u8],
+    place: Option<u8>,
+) -> Result<Step, AllocError> {
     Ok(Step::Do {
         value,
         args: SmallVec::from_slice(alloc, args)?,
@@ -57,7 +64,7 @@ fn done(alloc: Global, value: u32, args: &[u8], place: Option<u8>) -> Result<Ste
     })
 }
 
-fn block(
+pub(crate) fn block(
     alloc: Global,
     id: u32,
     kind: Kind,
@@ -73,7 +80,7 @@ fn block(
     })
 }
 
-fn placed(blocks: Vec<PlacedBlock>) -> Placed {
+pub(crate) fn placed(blocks: Vec<PlacedBlock>) -> Placed {
     Placed {
         blocks,
         slots: 0,
@@ -132,10 +139,10 @@ const SUM: [u32; 13] = [
 fn two_arguments_are_added(rt: HostRuntime) -> Result<(), Fail> {
     let alloc = rt.alloc();
     let rows = [
-        (2, Family::ArgWord, 0, Aux::Nothing),
-        (3, Family::ArgWord, 1, Aux::Nothing),
-        (4, Family::Rv(RvOp::Add), 0, Aux::Nothing),
-        (5, Family::RetWord, 2, Aux::Nothing),
+        (2, op(Family::ArgWord, 0), 0, Aux::Nothing),
+        (3, op(Family::ArgWord, 0), 1, Aux::Nothing),
+        (4, op(Family::Rv(RvOp::Add), 0), 0, Aux::Nothing),
+        (5, op(Family::RetWord, 0), 2, Aux::Nothing),
     ];
     let func = func(alloc, &[Ty::Int, Ty::Int], &rows)?;
     let steps = vec![in alloc;
@@ -155,7 +162,7 @@ fn a_constant_waits_for_the_pool(rt: HostRuntime) -> Result<(), Fail> {
     let alloc = rt.alloc();
     let rows = [(
         2,
-        Family::Rv(RvOp::Const),
+        op(Family::Rv(RvOp::Const), 0),
         0x1234_5678_9abc_def0,
         Aux::Nothing,
     )];

@@ -6,6 +6,8 @@
 #![tactic(auto)]
 
 #[cfg(test)]
+mod arm_emit;
+#[cfg(test)]
 mod calls;
 #[cfg(test)]
 mod emit;
