@@ -5,8 +5,8 @@ pub mod Put
 pub mod Rooted
 pub mod Rounds
 pub mod Rows
-pub mod Spots
 pub mod Standing
+pub mod Standings
 pub mod Sums
 pub mod Turns
 pub mod Variants

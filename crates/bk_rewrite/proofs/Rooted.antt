@@ -2,6 +2,7 @@
 use Rattle.std.proofs.Common.{◌≡◌, ℕ, zero, suc, ◌+◌, ◌<◌, ◌≤◌, ◌⊎◌, ⊎_elim, refl, ap, sym, subst, ◌∙◌, arith, Bool, List, [], ◌∷◌, ◌++◌, length, get_or, Option, Some, None, inl, inr, Vec, Global}
 use Rattle.std.specs.Prelude.{slice_get}
 use Rattle.std.proofs.lemmas.Bool.{cases_lt}
+use Rattle.std.proofs.lemmas.List.{length_push}
 use Rattle.std.proofs.lemmas.Option.{slice_get_within}
 use Rattle.bk_ops.specs.declared.types.Target.{Target}
 use Rattle.bk_ops.specs.declared.table.Op.{Op}
@@ -121,11 +122,11 @@ pub grouped_more : (part : ℕ) (rules : List Rule) (n : ℕ) (groups : List Gro
 grouped_more part rules n groups r new is root rooted h = record {
   each = λ i g e. ⊎_elim (λ old. h.each i g old) (λ last. subst (λ (x : Group). AreRooted x.op rules x.places.items) last.1 rooted) (pushed_cases groups new g i e);
   whole = λ k s o lt e q p. elim (cases_lt k n) [
-    | inl b ↦ (let w = h.whole k s o b e q p in (w.0, w.1.0, pushed_old groups new w.1.0 w.0 w.1.1, w.1.2))
+    | inl b ↦ (let w = h.whole k s o b e q p in (w.0, (w.1.0, pushed_old groups new w.1.0 w.0 w.1.1, w.1.2)))
     | inr b ↦ (let j : k ≡ n = omega (arith, lt, b) in
         let z : s ≡ r = (let y : Some s ≡ Some r = sym e ∙ (ap (slice_get rules) j ∙ is) in cc) in
         let same : new.op ≡ o = (let y : Some new.op ≡ Some o = sym root ∙ (ap (λ (w : Rule). root_op w.left) (sym z) ∙ q) in cc) in
-        (length groups, new, pushed_last groups new, same))
+        (length groups, (new, pushed_last groups new, same)))
   ];
 }
 
@@ -137,7 +138,7 @@ stands_on f bs cs pattern.Any o id e m = absurd (let q : None ≡ Some o = e in 
 stands_on f bs cs (pattern.Var i) o id e m = absurd (let q : None ≡ Some o = e in cc)
 stands_on f bs cs (pattern.Node' name w ty int x shape ps) o id e m =
     let (n, rest) = m in
-    let (v, d, q, more) = rest in
+    let (v, d, q, b, c, y, k) = rest in
     let z : w ≡ o = (let y : Some w ≡ Some o = e in cc) in
     (v, d, q ∙ z)
 
@@ -166,6 +167,15 @@ not_at t f rules id places v k r roots rooted is e apart =
     nowhere_else t f r id v w.0 is w.1
     (λ same. (let at = rooted.whole k r e (w.1 ∙ ap (λ o. Some o) (sym same)) in apart at.0 at.1))
 
+further_on : (p : ℕ) (places : List ℕ) (k : ℕ) → (p ≡ k → ⊥) → ((i : ℕ) → slice_get places i ≡ Some k → ⊥) → (i : ℕ) → slice_get (p ∷ places) i ≡ Some k → ⊥
+further_on p places k other h zero e = other (let q : Some p ≡ Some k = e in cc)
+further_on p places k other h (suc i) e = h i e
+
+further : (p : ℕ) (places : List ℕ) (k : ℕ) → (p ≡ k → ⊥) → ((i : ℕ) × (slice_get places i ≡ Some k)) ⊎ ((i : ℕ) → slice_get places i ≡ Some k → ⊥)
+    → ((i : ℕ) × (slice_get (p ∷ places) i ≡ Some k)) ⊎ ((i : ℕ) → slice_get (p ∷ places) i ≡ Some k → ⊥)
+further p places k other (inl h) = inl (suc h.0, h.1)
+further p places k other (inr h) = inr (further_on p places k other h)
+
 -- a number stands in a list, or it does not
 stands_in : (places : List ℕ) (k : ℕ) → ((i : ℕ) × (slice_get places i ≡ Some k)) ⊎ ((i : ℕ) → slice_get places i ≡ Some k → ⊥)
 stands_in [] k = inr (λ i e. (let q : None ≡ Some k = e in cc))
@@ -176,15 +186,6 @@ stands_in (p ∷ places) k = elim (cases_lt p k) [
     | inr d ↦ (let z : p ≡ k = omega (arith, b, d) in inl (zero, ap (λ m. Some m) z))
   ]
 ]
-where
-further : (p : ℕ) (places : List ℕ) (k : ℕ) → (p ≡ k → ⊥) → ((i : ℕ) × (slice_get places i ≡ Some k)) ⊎ ((i : ℕ) → slice_get places i ≡ Some k → ⊥)
-    → ((i : ℕ) × (slice_get (p ∷ places) i ≡ Some k)) ⊎ ((i : ℕ) → slice_get (p ∷ places) i ≡ Some k → ⊥)
-further p places k other (inl h) = inl (suc h.0, h.1)
-further p places k other (inr h) = inr (first p places k other h)
-
-first : (p : ℕ) (places : List ℕ) (k : ℕ) → (p ≡ k → ⊥) → ((i : ℕ) → slice_get places i ≡ Some k → ⊥) → (i : ℕ) → slice_get (p ∷ places) i ≡ Some k → ⊥
-first p places k other h zero e = other (let q : Some p ≡ Some k = e in cc)
-first p places k other h (suc i) e = h i e
 
 -- what stands before a place, where the rules at the places before it were tried
 pub before_this : (t : Target) (f : FuncRecord) (rules : List Rule) (id : ℕ) (places : List ℕ) (v : ValueRecord) (n place : ℕ) → HaveRoots rules → AreRooted v.op rules places
@@ -226,3 +227,61 @@ tried_all t f rules id places v n roots rooted is le tried k r e numbered = elim
   | inl w ↦ (let b = slice_get_within places w.0 k w.1 in tried.never w.0 k r (omega (arith, b, le)) w.1 e numbered)
   | inr h ↦ not_at t f rules id places v k r roots rooted is e h
 ]
+
+-- ---- groups, one by one
+pub no_group_here : (groups : List Group) (o : Op) (n : ℕ) (g : Group) → slice_get groups n ≡ Some g → (g.op ≡ o → ⊥) → ((i : ℕ) → i < n → HasGroup groups o i → ⊥)
+    → (i : ℕ) → i < n + 1 → HasGroup groups o i → ⊥
+no_group_here groups o n g is other before i lt h = elim (cases_lt i n) [
+  | inl b ↦ before i b h
+  | inr b ↦ (let z : i ≡ n = omega (arith, lt, b) in
+      let y : Some h.0 ≡ Some g = sym h.1 ∙ (ap (slice_get groups) z ∙ is) in
+      let x : h.0 ≡ g = cc in
+      other (ap (λ (w : Group). w.op) (sym x) ∙ h.2))
+]
+
+pub no_groups : (groups : List Group) (o : Op) (n : ℕ) → length groups ≤ n → ((i : ℕ) → i < n → HasGroup groups o i → ⊥) → IsUngrouped groups o
+no_groups groups o n le before = λ i h. (let b = slice_get_within groups i h.0 h.1 in before i (omega (arith, b, le)) h)
+
+-- ---- roots, one by one
+pub root_here : (rules : List Rule) (n : ℕ) (r : Rule) (o : Op) → slice_get rules n ≡ Some r → root_op r.left ≡ Some o
+    → ((k : ℕ) (s : Rule) → k < n → slice_get rules k ≡ Some s → (p : Op) × (root_op s.left ≡ Some p))
+    → (k : ℕ) (s : Rule) → k < n + 1 → slice_get rules k ≡ Some s → (p : Op) × (root_op s.left ≡ Some p)
+root_here rules n r o is root before k s lt e = elim (cases_lt k n) [
+  | inl b ↦ before k s b e
+  | inr b ↦ (let z : k ≡ n = omega (arith, lt, b) in
+      let y : Some r ≡ Some s = sym is ∙ (ap (slice_get rules) (sym z) ∙ e) in
+      let x : r ≡ s = cc in
+      (o, ap (λ (w : Rule). root_op w.left) (sym x) ∙ root))
+]
+
+pub all_roots : (rules : List Rule) (n : ℕ) → length rules ≤ n → ((k : ℕ) (s : Rule) → k < n → slice_get rules k ≡ Some s → (p : Op) × (root_op s.left ≡ Some p)) → HaveRoots rules
+all_roots rules n le before = λ k r e. (let b = slice_get_within rules k r e in before k r (omega (arith, b, le)) e)
+
+-- a group for each root op of a part, and none for this one: then no rule has it
+pub ungrouped : (o : Op) (rules : List Rule) (groups : List Group) (k : ℕ) (r : Rule) → Grouped (part_of o) rules (length rules) groups → IsUngrouped groups o
+    → slice_get rules k ≡ Some r → root_op r.left ≡ Some o → ⊥
+ungrouped o rules groups k r h none e q =
+    let b = slice_get_within rules k r e in
+    let w = h.whole k r o b e q refl in
+    none w.0 w.1
+
+-- ---- parts, one by one
+pub record PartsBelow (rules : List Rule) (n : ℕ) (parts : List (Vec Group Global)) : Type 0 where
+  pub long : length parts ≡ n
+  pub each : (k : ℕ) (groups : Vec Group Global) → slice_get parts k ≡ Some groups → Grouped k rules (length rules) groups.items
+
+pub parts_none : (rules : List Rule) (parts : List (Vec Group Global)) → parts ≡ [] → PartsBelow rules 0 parts
+parts_none rules parts is = record {
+  long = ap (λ (ps : List (Vec Group Global)). length ps) is;
+  each = λ k g e. absurd (let q : None ≡ Some g = subst (λ (ps : List (Vec Group Global)). slice_get ps k ≡ Some g) is e in cc);
+}
+
+pub parts_more : (rules : List Rule) (n : ℕ) (parts now : List (Vec Group Global)) (new : Vec Group Global) → now ≡ parts ++ new ∷ [] → PartsBelow rules n parts
+    → Grouped n rules (length rules) new.items → PartsBelow rules (n + 1) now
+parts_more rules n parts now new is h grouped = record {
+  long = ap (λ (ps : List (Vec Group Global)). length ps) is ∙ length_push parts new ∙ ap (λ m. m + 1) h.long;
+  each = λ k g e. ⊎_elim (λ old. h.each k g old)
+      (λ last. (let z : n ≡ k = omega (arith, last.0, h.long) in
+      subst (λ (x : Vec Group Global). Grouped k rules (length rules) x.items) last.1 (subst (λ m. Grouped m rules (length rules) new.items) z grouped)))
+      (pushed_cases parts new g k (subst (λ (ps : List (Vec Group Global)). slice_get ps k ≡ Some g) is e));
+}

@@ -114,12 +114,12 @@ pub(crate) struct Site<'a> {
 pub(crate) struct Ruled<'a> {
     pub(crate) rules: &'a [Rule],
     pub(crate) index: &'a Index,
-    ghost indexed: { IsIndex rules.now index.now },
 }
 
 /// The first rule that matches there. Only those are tried that may stand at the value's op, where each has
 /// an op at its root.
 pub(crate) fn find(alloc: Global, site: &Site, ruled: &Ruled) -> Result<Option<Found>, AllocError>
+    requires { IsIndex ruled.now.rules.now ruled.now.index.now }
     ensures found { HasNumbers site.now.func.now → IfOk result (λ o. IfSome o (λ r. IsFirst site.now.target site.now.func.now ruled.now.rules.now site.now.value r.place r.binds.items r.choices.items)) }
     ensures none { HasNumbers site.now.func.now → IfOk result (λ o. IfNone o (NoneMatches site.now.target site.now.func.now ruled.now.rules.now site.now.value)) }
     ensures place { IfOk result (λ o. IfSome o (λ r. r.place < length ruled.now.rules.now)) }

@@ -121,7 +121,8 @@ fn try_pass(
     target: Target,
     counts: Counts,
 ) -> Result<Passed, Stop>
-    requires { counts.greatest + (value_limit - counts.values) < 2 ^ 32 }
+    requires room { counts.greatest + (value_limit - counts.values) < 2 ^ 32 }
+    requires index { IsIndex ruled.now.rules.now ruled.now.index.now }
     ensures room { IfOk result (λ passed. passed.counts.greatest + (value_limit - passed.counts.values) < 2 ^ 32) }
     ensures counted { IsCounted counts.greatest (value_limit - counts.values) func.old → IfOk result (λ passed. IsCounted passed.counts.greatest (value_limit - passed.counts.values) func.new) }
     ensures passed { IsCounted counts.greatest (value_limit - counts.values) func.old → OnOk result (IsPass target ruled.now.rules.now func.old func.new) }
@@ -182,7 +183,8 @@ fn visit_all(
     target: Target,
     counts: Counts,
 ) -> Result<Counts, Stop>
-    requires { counts.greatest + (value_limit - counts.values) < 2 ^ 32 }
+    requires room { counts.greatest + (value_limit - counts.values) < 2 ^ 32 }
+    requires index { IsIndex ruled.now.rules.now ruled.now.index.now }
     ensures room { IfOk result (λ now. now.greatest + (value_limit - now.values) < 2 ^ 32) }
     ensures counted { IsCounted counts.greatest (value_limit - counts.values) func.old → IfOk result (λ now. IsCounted now.greatest (value_limit - now.values) func.new) }
     ensures visits { IsCounted counts.greatest (value_limit - counts.values) func.old → OnOk result (VisitsEach target ruled.now.rules.now ids.now func.old func.new) }
@@ -206,7 +208,8 @@ fn visit(
     target: Target,
     counts: Counts,
 ) -> Result<Counts, Stop>
-    requires { counts.greatest + (value_limit - counts.values) < 2 ^ 32 }
+    requires room { counts.greatest + (value_limit - counts.values) < 2 ^ 32 }
+    requires index { IsIndex ruled.now.rules.now ruled.now.index.now }
     ensures room { IfOk result (λ now. now.greatest + (value_limit - now.values) < 2 ^ 32) }
     ensures counted { IsCounted counts.greatest (value_limit - counts.values) func.old → IfOk result (λ now. IsCounted now.greatest (value_limit - now.values) func.new) }
     ensures visits { IsCounted counts.greatest (value_limit - counts.values) func.old → OnOk result (Visits target ruled.now.rules.now func.old id func.new) }
@@ -231,7 +234,8 @@ fn try_rules(
     target: Target,
     counts: Counts,
 ) -> Result<Counts, Stop>
-    requires { counts.greatest + (value_limit - counts.values) < 2 ^ 32 }
+    requires room { counts.greatest + (value_limit - counts.values) < 2 ^ 32 }
+    requires index { IsIndex ruled.now.rules.now ruled.now.index.now }
     ensures room { IfOk result (λ now. now.greatest + (value_limit - now.values) < 2 ^ 32) }
     ensures counted { (v : ValueRecord) → Stands func.old id spot.block spot.place v → IsCounted counts.greatest (value_limit - counts.values) func.old → IfOk result (λ now. IsCounted now.greatest (value_limit - now.values) func.new) }
     ensures tries { (v : ValueRecord) → Stands func.old id spot.block spot.place v → IsCounted counts.greatest (value_limit - counts.values) func.old → OnOk result (Tries target ruled.now.rules.now func.old id spot.block spot.place v func.new) }

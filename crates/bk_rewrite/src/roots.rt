@@ -1,6 +1,5 @@
 // Rules by the op at the root of their left tree.
-ghost use Rattle.std.specs.Prelude.{◌≡◌, ℕ, ◌+◌, ◌++◌, ◌∷◌, [], ◌⊎◌, true, false, Some, slice_get, IfOk, IfNone, IfSome, OnOk};
-ghost use Rattle.bk_ops.specs.declared.table.Op.{Op};
+ghost use Rattle.std.specs.Prelude.{◌≡◌, ℕ, ◌+◌, ◌++◌, ◌∷◌, [], List, true, false, Some, slice_get, IfOk, IfNone, IfSome, OnOk};
 ghost use Rattle.bk_rule.specs.declared.trees.Rule.{Rule};
 ghost use Rattle.bk_rewrite.specs.Roots.{root_op, part_of, AreRooted, AreGroups, Grouped, HasGroup, HaveRoots, IsIndex, IsUngrouped};
 
@@ -98,9 +97,9 @@ fn have_roots(rules: &[Rule]) -> bool
     ensures { result ≡ true → HaveRoots rules.now }
 {
     for rule in rules {
-        if root_op(&rule.left).is_none() {
+        let Some(_op) = root_op(&rule.left) else {
             return false;
-        }
+        };
     }
     true
 }
@@ -171,8 +170,9 @@ fn places_of(alloc: Global, rules: &[Rule], op: Op) -> Result<Vec<u32>, AllocErr
 fn push_place(places: &mut Vec<u32>, place: usize) -> Result<(), AllocError>
     ensures { OnOk result (places.new.items ≡ places.old.items ++ place ∷ []) }
 {
-    match u32::try_from(place) {
-        Ok(place) => places.push(place),
-        Err(_) => Err(AllocError),
-    }
+    let Ok(place) = u32::try_from(place) else {
+        return Err(AllocError);
+    };
+    places.push(place)?;
+    Ok(())
 }

@@ -1,4 +1,4 @@
-use Rattle.bk_rewrite.proofs.Spots.{found_named, unnamed}
+use Rattle.bk_rewrite.proofs.Standings.{found_named, unnamed}
 use Rattle.std.proofs.Common.{sym}
 use Rattle.bk_rewrite.proofs.spots.Spots.find.Goals as goal
 
