@@ -1,5 +1,5 @@
 -- The places of the rules that have an op at the root of their left tree, one rule more at a time.
-use Rattle.std.proofs.Common.{◌≡◌, ℕ, zero, suc, ◌+◌, ◌<◌, ◌≤◌, ◌⊎◌, ⊎_elim, refl, ap, sym, subst, ◌∙◌, arith, Bool, List, [], ◌∷◌, ◌++◌, length, get_or, Option, Some, None, inl, inr, Vec, Global}
+use Rattle.std.proofs.Common.{◌≡◌, ℕ, zero, suc, ◌+◌, ◌<◌, ◌≤◌, ◌⊎◌, ⊎_elim, refl, ap, sym, subst, ◌∙◌, arith, Bool, List, [], ◌∷◌, ◌++◌, length, Some, None, inl, inr, Vec, Global}
 use Rattle.std.specs.Prelude.{slice_get}
 use Rattle.std.proofs.lemmas.Bool.{cases_lt}
 use Rattle.std.proofs.lemmas.List.{length_push}
@@ -12,7 +12,7 @@ use Rattle.bk_rule.specs.declared.trees.Bound.{Bound}
 use Rattle.bk_rule.specs.declared.trees.Pattern.{Pattern}
 use Rattle.bk_rule.specs.declared.trees.Pattern as pattern
 use Rattle.bk_rule.specs.declared.trees.Rule.{Rule}
-use Rattle.bk_rule.specs.Match.{Matches, IsMatch}
+use Rattle.bk_rule.specs.Match.{Matches}
 use Rattle.bk_rewrite.specs.declared.roots.Group.{Group}
 use Rattle.bk_rewrite.specs.First.{IsNumbered, NeverMatches, NoneMatches}
 use Rattle.bk_rewrite.specs.Roots.{root_op, part_of, AreRooted, Grouped, HasGroup, HaveRoots, IsUngrouped}

@@ -1,4 +1,4 @@
-use Rattle.std.proofs.Common.{◌≡◌, ℕ, ◌+◌, ◌-◌, ◌<◌, ◌^◌}
+use Rattle.std.proofs.Common.{ℕ, ◌+◌, ◌-◌, ◌<◌, ◌^◌}
 use Rattle.bk_func.specs.Records.{FuncRecord}
 use Rattle.bk_rewrite.specs.Places.{value_limit, HasNumbers}
 use Rattle.bk_rewrite.specs.Passes.{IsCounted, Changes}

@@ -1,4 +1,3 @@
-use Rattle.bk_rewrite.specs.Making.{source}
 use Rattle.bk_rewrite.specs.Places.{value_limit}
 use Rattle.bk_rewrite.proofs.Rows.{told}
 use Rattle.bk_rewrite.proofs.Turns.{exceeds_by, applies_by, counted_by}

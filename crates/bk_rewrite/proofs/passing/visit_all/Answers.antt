@@ -1,4 +1,4 @@
-use Rattle.std.proofs.Common.{◌≡◌, ◌+◌, ◌-◌, sym, arith, get_or, length, drop, slice_index_or, Some}
+use Rattle.std.proofs.Common.{◌≡◌, sym, arith, get_or, slice_index_or, Some}
 use Rattle.std.specs.Prelude.{slice_get}
 use Rattle.std.proofs.lemmas.Option.{get_or_from_slice_get, slice_get-get_or}
 use Rattle.bk_func.specs.Records.{FuncRecord}

@@ -1,4 +1,4 @@
-use Rattle.std.proofs.Common.{◌≡◌, ◌+◌, ◌-◌, ◌<◌, ◌^◌, drop}
+use Rattle.std.proofs.Common.{◌+◌, ◌-◌, ◌<◌, ◌^◌, drop}
 use Rattle.bk_func.specs.Records.{FuncRecord}
 use Rattle.bk_rewrite.specs.Places.{value_limit}
 use Rattle.bk_rewrite.specs.Passes.{IsCounted, VisitsEach, StopsAmong}

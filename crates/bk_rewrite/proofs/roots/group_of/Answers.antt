@@ -1,5 +1,5 @@
-use Rattle.std.proofs.Common.{◌≡◌, ◌∙◌, refl, ap, sym, arith, length}
-use Rattle.std.proofs.lemmas.Option.{slice_get_read, slice_get_within}
+use Rattle.std.proofs.Common.{refl, arith, length}
+use Rattle.std.proofs.lemmas.Option.{slice_get_read}
 use Rattle.bk_rewrite.proofs.Rooted.{no_group_here, no_groups}
 use Rattle.bk_rewrite.proofs.roots.group_of.Goals as goal
 

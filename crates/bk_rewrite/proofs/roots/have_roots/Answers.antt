@@ -1,4 +1,4 @@
-use Rattle.std.proofs.Common.{◌≡◌, ◌∙◌, refl, sym, arith, length}
+use Rattle.std.proofs.Common.{◌∙◌, refl, sym, arith, length}
 use Rattle.std.proofs.lemmas.Option.{slice_get_read}
 use Rattle.bk_rewrite.proofs.Rooted.{root_here, all_roots}
 use Rattle.bk_rewrite.proofs.roots.have_roots.Goals as goal

@@ -1,4 +1,3 @@
-use Rattle.std.proofs.Common.{refl}
 use Rattle.bk_rewrite.proofs.Rooted.{rooted_nowhere, ungrouped}
 use Rattle.bk_rewrite.proofs.roots.places_in.Goals as goal
 

@@ -1,4 +1,4 @@
-use Rattle.std.proofs.Common.{◌≡◌, ◌∙◌, ◌+◌, refl, ap, arith, length, List, ℕ, sym, subst, Vec, Global}
+use Rattle.std.proofs.Common.{◌∙◌, ◌+◌, refl, ap, arith, length, ℕ, sym, subst, Vec, Global}
 use Rattle.std.proofs.lemmas.Option.{slice_get_read}
 use Rattle.bk_rewrite.proofs.Rooted.{RootedBelow, rooted_all, rooted_more, rooted_other}
 use Rattle.bk_rewrite.proofs.roots.places_of.Goals as goal
