@@ -1,5 +1,5 @@
 -- What an edit of one block keeps of a function: the numbers of its values, the greatest of them, and how many there are.
-use Rattle.std.proofs.Common.{◌≡◌, ℕ, zero, suc, ◌+◌, ◌-◌, ◌<◌, ◌≤◌, max, refl, ap, sym, subst, ◌∙◌, arith, List, [], ◌∷◌, ◌++◌, length, length-append, get_or, Option, Some, None, inl, inr, ◌⊎◌}
+use Rattle.std.proofs.Common.{◌≡◌, ℕ, zero, suc, ◌+◌, ◌≤◌, max, refl, ap, sym, subst, ◌∙◌, arith, List, [], ◌∷◌, ◌++◌, length, length-append, get_or, Option, Some, None, inl, inr, ◌⊎◌}
 use Rattle.std.specs.Prelude.{slice_get, slice_set, fold, sum_by}
 use Rattle.std.proofs.lemmas.Option.{slice_get_within, get_or_from_slice_get}
 use Rattle.std.proofs.lemmas.List.{length-set}
@@ -8,7 +8,7 @@ use Rattle.bk_func.specs.Records.{ValueRecord, BlockRecord, FuncRecord}
 use Rattle.bk_func.specs.Edits.{greatest_value}
 use Rattle.bk_rule.specs.declared.trees.Build.{Build, Row_of-Build, end_of-Build, more_of-Build}
 use Rattle.bk_rule.specs.declared.trees.Build as build
-use Rattle.bk_rewrite.specs.Places.{value_in, in_block, value_at, in_place, with_block, with_made, count_values, StandsIn, HasNumbers}
+use Rattle.bk_rewrite.specs.Places.{value_in, in_block, in_place, with_block, with_made, count_values, StandsIn, HasNumbers}
 use Rattle.bk_rewrite.specs.Making.{Source, node_made, result_type, values_made, row_made, row_names, inner_made}
 
 -- ---- the greatest number

@@ -1,8 +1,8 @@
 -- Visits of values: what is counted after them, and visits one after the other.
-use Rattle.std.proofs.Common.{◌≡◌, ℕ, zero, suc, ◌+◌, ◌-◌, ◌<◌, ◌≤◌, refl, ap, sym, subst, ◌∙◌, add-one, append_assoc, arith, Bool, List, [], ◌∷◌, ◌++◌, length, length-append, get_or, drop, drop-cons, map, Option, Some, None, inl, inr, ◌⊎◌}
+use Rattle.std.proofs.Common.{◌≡◌, ℕ, zero, suc, ◌+◌, ◌-◌, ◌<◌, ◌≤◌, refl, ap, sym, subst, ◌∙◌, append_assoc, arith, Bool, List, [], ◌∷◌, ◌++◌, length, get_or, drop, map, Option, Some, None, inl, inr}
 use Rattle.std.specs.Prelude.{slice_get, slice_set}
 use Rattle.std.specs.List.{flat_map}
-use Rattle.std.proofs.lemmas.Option.{slice_get_within, slice_get_read, get_or_from_slice_get}
+use Rattle.std.proofs.lemmas.Option.{slice_get_read, get_or_from_slice_get}
 use Rattle.std.proofs.lemmas.List.{drop_all, drop_more, append-nil}
 use Rattle.std.proofs.lemmas.List.Concat.{flat_map-cons}
 use Rattle.bk_ops.specs.declared.types.Target.{Target}
@@ -13,10 +13,10 @@ use Rattle.bk_rule.specs.declared.trees.Bound.{Bound}
 use Rattle.bk_rule.specs.declared.trees.Build.{Build}
 use Rattle.bk_rule.specs.declared.trees.Build as build
 use Rattle.bk_rule.specs.declared.trees.Rule.{Rule}
-use Rattle.bk_rewrite.specs.Places.{StandsAt, HasNumbers, in_block, value_at, value_in, in_place, with_block, with_made, count_values, value_limit}
-use Rattle.bk_rewrite.specs.Making.{Source, source, inner, inner_made, root_made, applied, Grows}
-use Rattle.bk_rewrite.specs.First.{IsFirst, NoneMatches}
-use Rattle.bk_rewrite.specs.Passes.{copied_in, with_args, with_value, looked_through, with_looked_through, Applies, Exceeds, Tries, Stands, Turned, Stops, Visits, VisitsEach, StopsAmong, IsPass, PassExceeds, Changes, Settles, Outgrows, IsCounted}
+use Rattle.bk_rewrite.specs.Places.{StandsAt, HasNumbers, in_block, value_at, in_place, with_block, with_made, value_limit}
+use Rattle.bk_rewrite.specs.Making.{Source, source, inner, root_made, applied, Grows}
+use Rattle.bk_rewrite.specs.First.{IsFirst}
+use Rattle.bk_rewrite.specs.Passes.{with_args, with_value, looked_through, with_looked_through, Applies, Exceeds, Tries, Stands, Stops, Visits, VisitsEach, StopsAmong, IsPass, PassExceeds, Changes, Settles, Outgrows, IsCounted}
 use Rattle.bk_rewrite.proofs.Kept.{Edit, edited, edited_greatest, edited_count, edited_numbers, numbered_inner, numbered_none}
 
 -- ---- edits of a value that stands somewhere

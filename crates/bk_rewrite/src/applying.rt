@@ -6,8 +6,8 @@ ghost use Rattle.bk_func.specs.Records.{ValueRecord};
 ghost use Rattle.bk_rewrite.specs.Places.{value_limit, count_values, value_at, StandsAt, HasNumbers, HasRoom, with_made, with_block};
 ghost use Rattle.bk_rewrite.specs.Making.{source, inner, inner_made, root_made, applied, Grows};
 
-use crate::index::{Spot, first_spot, value_at};
 use crate::making::{Plan, Stop, VALUE_LIMIT, make_root};
+use crate::spots::{Spot, first_spot, value_at};
 use bk_func::{Block, Func, RewriteError, Value, greatest_value};
 use bk_ops::{Target, Ty};
 use bk_rule::{Bound, Rule};
@@ -31,7 +31,7 @@ pub(crate) fn counted(func: &Func) -> Counts
 }
 
 #[tactic(auto, using(crate::proofs::Sums::count_step, crate::proofs::Sums::count_end))]
-fn count_values(blocks: &[Block]) -> usize
+pub(crate) fn count_values(blocks: &[Block]) -> usize
     ensures { value_limit - result ≡ value_limit - sum_by (λ b. length b.values) blocks.now }
 {
     let mut count = 0usize;

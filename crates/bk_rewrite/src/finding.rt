@@ -11,10 +11,12 @@ ghost use Rattle.bk_rule.specs.Sound.{HasInt, HasInts};
 ghost use Rattle.bk_rule.specs.Match.{Matches, orders};
 ghost use Rattle.bk_rewrite.specs.First.{IsNumbered, IsFirst, NoneMatches};
 ghost use Rattle.bk_rewrite.specs.Places.{HasNumbers};
+ghost use Rattle.bk_rewrite.specs.Roots.{AreRooted, HaveRoots, IsIndex};
 ghost use Rattle.bk_rewrite.specs.Trials.{Chosen, NoneChosen};
 
-use crate::index::Index;
 use crate::ops::same_op;
+use crate::roots::{Index, rules_for};
+use crate::spots::Spots;
 use crate::tree::{Place, Trail, Verdict, stand};
 use bk_func::{Func, Memory, Value};
 use bk_ops::{Target, op_info};
@@ -54,15 +56,16 @@ pub fn find_match<'a>(
     ensures none { HasNumbers func.now → IfOk result (λ o. IfNone o (NoneMatches target func.now rules.now value)) }
     ensures rule { IfOk result (λ o. IfSome o (λ m. slice_get rules.now m.place ≡ Some m.rule.now)) }
 {
-    let index = Index::new(alloc, func)?;
+    let spots = Spots::new(alloc, func)?;
     let site = Site {
         func,
-        index: &index,
+        spots: &spots,
         value,
         target,
     };
-    match find(alloc, &site, rules)? {
-        Some(found) => Ok(Some(told(alloc, func, &index, rules, value, found)?)),
+    let root = spots.find(func, value);
+    match find_among(alloc, &site, rules, root)? {
+        Some(found) => Ok(Some(told(alloc, func, &spots, rules, value, found)?)),
         None => Ok(None),
     }
 }
@@ -71,7 +74,7 @@ pub fn find_match<'a>(
 fn told<'a>(
     alloc: Global,
     func: &'a Func,
-    index: &Index,
+    spots: &Spots,
     rules: &'a [Rule],
     value: u32,
     found: Found,
@@ -88,7 +91,7 @@ fn told<'a>(
     } = found;
     let rule = &rules[place];
     let mut values = Vec::new(alloc);
-    let _used = collect(func, index, &choices, &rule.left, value, 0, &mut values)?;
+    let _used = collect(func, spots, &choices, &rule.left, value, 0, &mut values)?;
     Ok(Match {
         place,
         rule,
@@ -101,18 +104,81 @@ fn told<'a>(
 #[derive(Clone, Copy)]
 pub(crate) struct Site<'a> {
     pub(crate) func: &'a Func,
-    pub(crate) index: &'a Index,
+    pub(crate) spots: &'a Spots,
     pub(crate) value: u32,
     pub(crate) target: Target,
 }
 
-/// The first rule that matches there, by an index of the function.
-pub(crate) fn find(alloc: Global, site: &Site, rules: &[Rule]) -> Result<Option<Found>, AllocError>
+/// Rules with their index.
+#[derive(Clone, Copy)]
+pub(crate) struct Ruled<'a> {
+    pub(crate) rules: &'a [Rule],
+    pub(crate) index: &'a Index,
+}
+
+/// The first rule that matches there. Only those are tried that may stand at the value's op, where each has
+/// an op at its root.
+pub(crate) fn find(alloc: Global, site: &Site, ruled: &Ruled) -> Result<Option<Found>, AllocError>
+    requires { IsIndex ruled.now.rules.now ruled.now.index.now }
+    ensures found { HasNumbers site.now.func.now → IfOk result (λ o. IfSome o (λ r. IsFirst site.now.target site.now.func.now ruled.now.rules.now site.now.value r.place r.binds.items r.choices.items)) }
+    ensures none { HasNumbers site.now.func.now → IfOk result (λ o. IfNone o (NoneMatches site.now.target site.now.func.now ruled.now.rules.now site.now.value)) }
+    ensures place { IfOk result (λ o. IfSome o (λ r. r.place < length ruled.now.rules.now)) }
+{
+    let rules = ruled.rules;
+    let root = site.spots.find(site.func, site.value);
+    if !ruled.index.has_roots {
+        return find_among(alloc, site, rules, root);
+    }
+    match root {
+        Some(value) => {
+            let places = rules_for(ruled.index, value.op);
+            find_at(alloc, site, rules, places, value)
+        }
+        None => Ok(None),
+    }
+}
+
+/// The first rule that matches at the value, of which only those at these places may.
+fn find_at(
+    alloc: Global,
+    site: &Site,
+    rules: &[Rule],
+    places: &[u32],
+    value: &Value,
+) -> Result<Option<Found>, AllocError>
+    requires rooted { AreRooted value.now.op rules.now places.now }
+    requires roots { HaveRoots rules.now }
+    requires value { HasNumbers site.now.func.now → Some value.now ≡ value_of site.now.func.now site.now.value }
     ensures found { HasNumbers site.now.func.now → IfOk result (λ o. IfSome o (λ r. IsFirst site.now.target site.now.func.now rules.now site.now.value r.place r.binds.items r.choices.items)) }
     ensures none { HasNumbers site.now.func.now → IfOk result (λ o. IfNone o (NoneMatches site.now.target site.now.func.now rules.now site.now.value)) }
     ensures place { IfOk result (λ o. IfSome o (λ r. r.place < length rules.now)) }
 {
-    let root = site.index.find(site.func, site.value);
+    for place in places {
+        let place = *place as usize;
+        let rule = &rules[place];
+        if let Some(Tried { binds, choices }) = try_rule(alloc, site, rule, Some(value))? {
+            return Ok(Some(Found {
+                place,
+                binds,
+                choices,
+            }));
+        }
+    }
+    Ok(None)
+}
+
+/// The first rule that matches at the value, whose root may be of any op.
+fn find_among(
+    alloc: Global,
+    site: &Site,
+    rules: &[Rule],
+    root: Option<&Value>,
+) -> Result<Option<Found>, AllocError>
+    requires { HasNumbers site.now.func.now → option_copied root ≡ value_of site.now.func.now site.now.value }
+    ensures found { HasNumbers site.now.func.now → IfOk result (λ o. IfSome o (λ r. IsFirst site.now.target site.now.func.now rules.now site.now.value r.place r.binds.items r.choices.items)) }
+    ensures none { HasNumbers site.now.func.now → IfOk result (λ o. IfNone o (NoneMatches site.now.target site.now.func.now rules.now site.now.value)) }
+    ensures place { IfOk result (λ o. IfSome o (λ r. r.place < length rules.now)) }
+{
     for (place, rule) in rules.iter().enumerate() {
         if let Some(Tried { binds, choices }) = try_rule(alloc, site, rule, root)? {
             return Ok(Some(Found {
@@ -185,7 +251,7 @@ fn choose(
     };
     let at = Place {
         func: site.func,
-        index: site.index,
+        spots: site.spots,
         choices: choices.as_slice(),
     };
     match stand(&at, &rule.left, site.value, &mut trail)? {
@@ -280,7 +346,7 @@ fn has_int(func: &Func, int: &Option<Expr>, binds: &[Bound], target: Target) -> 
 #[cycle(collect)]
 fn collect<'a>(
     func: &'a Func,
-    index: &Index,
+    spots: &Spots,
     choices: &[bool],
     pattern: &Pattern,
     id: u32,
@@ -290,20 +356,20 @@ fn collect<'a>(
     let Pattern::Node { op, args, .. } = pattern else {
         return Ok(used);
     };
-    let Some(value) = index.find(func, id) else {
+    let Some(value) = spots.find(func, id) else {
         return Ok(used);
     };
     values.push(value)?;
     let ids = value.args.as_slice();
     if !op_info(*op).commutative {
-        return collect_each(func, index, choices, args.as_slice(), ids, used, values);
+        return collect_each(func, spots, choices, args.as_slice(), ids, used, values);
     }
     let swap = choices.get(used).copied().unwrap_or(false);
     let used = used.saturating_add(1);
     if swap && ids.len() == 2 {
         collect_each(
             func,
-            index,
+            spots,
             choices,
             args.as_slice(),
             &[ids[1], ids[0]],
@@ -311,14 +377,14 @@ fn collect<'a>(
             values,
         )
     } else {
-        collect_each(func, index, choices, args.as_slice(), ids, used, values)
+        collect_each(func, spots, choices, args.as_slice(), ids, used, values)
     }
 }
 
 #[cycle(collect)]
 fn collect_each<'a>(
     func: &'a Func,
-    index: &Index,
+    spots: &Spots,
     choices: &[bool],
     patterns: &[Pattern],
     ids: &[u32],
@@ -327,7 +393,7 @@ fn collect_each<'a>(
 ) -> Result<usize, AllocError> {
     let mut used = used;
     for (pattern, id) in patterns.iter().zip(ids) {
-        used = collect(func, index, choices, pattern, *id, used, values)?;
+        used = collect(func, spots, choices, pattern, *id, used, values)?;
     }
     Ok(used)
 }

@@ -4,13 +4,15 @@ ghost use Rattle.std.specs.List.{flat_map};
 ghost use Rattle.bk_func.specs.Numbers.{value_of};
 ghost use Rattle.bk_func.specs.Records.{ValueRecord, FuncRecord};
 ghost use Rattle.bk_rewrite.specs.Places.{value_limit, value_at, with_block, HasNumbers, HasRoom};
+ghost use Rattle.bk_rewrite.specs.Roots.{IsIndex};
 ghost use Rattle.bk_rewrite.specs.Passes.{first_or, copied, copied_in, with_args, with_value, with_looked_through, Stands, Tries, Exceeds, Visits, Stops, VisitsEach, StopsAmong, IsPass, PassExceeds, Settles, Changes, Outgrows, IsCounted};
 
 use crate::applying::{Counts, apply_at, counted};
-use crate::finding::{Site, find};
-use crate::index::{Index, Spot, value_at};
+use crate::finding::{Ruled, Site, find};
 use crate::making::{Stop, push_arg, refusal};
+use crate::roots::{Index, index_rules};
 use crate::same::same_func;
+use crate::spots::{Spot, Spots, value_at};
 use bk_func::{Block, Func, RewriteError, Value, copy_func};
 use bk_ops::{Family, Target};
 use bk_rule::Rule;
@@ -36,8 +38,15 @@ pub fn pass(
     ensures unchanged { IfOk result (λ changed. changed ≡ false → func.new ≡ func.old) }
     ensures refused { IfErr result (λ e. (e ≡ RewriteError.Memory) ⊎ (e ≡ RewriteError.Grown 32769)) }
 {
+    let Ok(index) = index_rules(alloc, rules) else {
+        return Err(RewriteError::Memory);
+    };
+    let ruled = Ruled {
+        rules,
+        index: &index,
+    };
     let counts = counted(func);
-    match try_pass(alloc, func, rules, target, counts) {
+    match try_pass(alloc, func, &ruled, target, counts) {
         Ok(passed) => Ok(passed.changed),
         Err(stop) => Err(refusal(stop)),
     }
@@ -59,11 +68,33 @@ pub fn rewrite(
     ensures grown { HasNumbers func → IfErr result (λ e. e ≡ RewriteError.Grown 32769 → Outgrows target rules.now (64 + func.given) func) }
     ensures refused { IfErr result (λ e. (e ≡ RewriteError.Memory) ⊎ ((e ≡ RewriteError.Grown 32769) ⊎ (e ≡ RewriteError.Passes (64 + func.given)))) }
 {
+    let Ok(index) = index_rules(alloc, rules) else {
+        return Err(RewriteError::Memory);
+    };
+    rewrite_by(alloc, func, rules, &index, target)
+}
+
+/// The same by the index of the rules, which serves any count of functions.
+pub fn rewrite_by(
+    alloc: Global,
+    func: Func,
+    rules: &[Rule],
+    index: &Index,
+    target: Target,
+) -> Result<Func, RewriteError>
+    requires room { HasRoom func }
+    requires index { IsIndex rules.now index.now }
+    ensures settled { HasNumbers func → IfOk result (λ g. Settles target rules.now (64 + func.given) func g) }
+    ensures passes { HasNumbers func → IfErr result (λ e. e ≡ RewriteError.Passes (64 + func.given) → (g : FuncRecord) × Changes target rules.now (64 + func.given) func g) }
+    ensures grown { HasNumbers func → IfErr result (λ e. e ≡ RewriteError.Grown 32769 → Outgrows target rules.now (64 + func.given) func) }
+    ensures refused { IfErr result (λ e. (e ≡ RewriteError.Memory) ⊎ ((e ≡ RewriteError.Grown 32769) ⊎ (e ≡ RewriteError.Passes (64 + func.given)))) }
+{
+    let ruled = Ruled { rules, index };
     let mut func = func;
     let mut counts = counted(&func);
     let limit = 64 + func.given as u64;
     for _pass in 0..limit {
-        match try_pass(alloc, &mut func, rules, target, counts) {
+        match try_pass(alloc, &mut func, &ruled, target, counts) {
             Ok(passed) => {
                 if !passed.changed {
                     return Ok(func);
@@ -86,21 +117,22 @@ struct Passed {
 fn try_pass(
     alloc: Global,
     func: &mut Func,
-    rules: &[Rule],
+    ruled: &Ruled,
     target: Target,
     counts: Counts,
 ) -> Result<Passed, Stop>
-    requires { counts.greatest + (value_limit - counts.values) < 2 ^ 32 }
+    requires room { counts.greatest + (value_limit - counts.values) < 2 ^ 32 }
+    requires index { IsIndex ruled.now.rules.now ruled.now.index.now }
     ensures room { IfOk result (λ passed. passed.counts.greatest + (value_limit - passed.counts.values) < 2 ^ 32) }
     ensures counted { IsCounted counts.greatest (value_limit - counts.values) func.old → IfOk result (λ passed. IsCounted passed.counts.greatest (value_limit - passed.counts.values) func.new) }
-    ensures passed { IsCounted counts.greatest (value_limit - counts.values) func.old → OnOk result (IsPass target rules.now func.old func.new) }
-    ensures exceeds { IsCounted counts.greatest (value_limit - counts.values) func.old → IfErr result (λ e. e ≡ Stop.Grown → PassExceeds target rules.now func.old) }
+    ensures passed { IsCounted counts.greatest (value_limit - counts.values) func.old → OnOk result (IsPass target ruled.now.rules.now func.old func.new) }
+    ensures exceeds { IsCounted counts.greatest (value_limit - counts.values) func.old → IfErr result (λ e. e ≡ Stop.Grown → PassExceeds target ruled.now.rules.now func.old) }
     ensures changed { IfOk result (λ passed. passed.changed ≡ true → func.new ≡ func.old → ⊥) }
     ensures unchanged { IfOk result (λ passed. passed.changed ≡ false → func.new ≡ func.old) }
 {
     let before = copy(alloc, func)?;
     let ids = value_ids(alloc, &func.blocks)?;
-    let counts = visit_all(alloc, func, rules, &ids, target, counts)?;
+    let counts = visit_all(alloc, func, ruled, &ids, target, counts)?;
     let changed = !same_func(&before, func);
     Ok(Passed { changed, counts })
 }
@@ -146,21 +178,22 @@ fn push_id(ids: &mut Vec<u32>, value: &Value) -> Result<(), AllocError>
 fn visit_all(
     alloc: Global,
     func: &mut Func,
-    rules: &[Rule],
+    ruled: &Ruled,
     ids: &[u32],
     target: Target,
     counts: Counts,
 ) -> Result<Counts, Stop>
-    requires { counts.greatest + (value_limit - counts.values) < 2 ^ 32 }
+    requires room { counts.greatest + (value_limit - counts.values) < 2 ^ 32 }
+    requires index { IsIndex ruled.now.rules.now ruled.now.index.now }
     ensures room { IfOk result (λ now. now.greatest + (value_limit - now.values) < 2 ^ 32) }
     ensures counted { IsCounted counts.greatest (value_limit - counts.values) func.old → IfOk result (λ now. IsCounted now.greatest (value_limit - now.values) func.new) }
-    ensures visits { IsCounted counts.greatest (value_limit - counts.values) func.old → OnOk result (VisitsEach target rules.now ids.now func.old func.new) }
-    ensures stops { IsCounted counts.greatest (value_limit - counts.values) func.old → IfErr result (λ e. e ≡ Stop.Grown → StopsAmong target rules.now ids.now func.old) }
+    ensures visits { IsCounted counts.greatest (value_limit - counts.values) func.old → OnOk result (VisitsEach target ruled.now.rules.now ids.now func.old func.new) }
+    ensures stops { IsCounted counts.greatest (value_limit - counts.values) func.old → IfErr result (λ e. e ≡ Stop.Grown → StopsAmong target ruled.now.rules.now ids.now func.old) }
 {
-    let mut index = Index::new(alloc, func)?;
+    let mut spots = Spots::new(alloc, func)?;
     let mut counts = counts;
     for id in ids {
-        counts = visit(alloc, func, &mut index, rules, *id, target, counts)?;
+        counts = visit(alloc, func, &mut spots, ruled, *id, target, counts)?;
     }
     Ok(counts)
 }
@@ -169,23 +202,24 @@ fn visit_all(
 fn visit(
     alloc: Global,
     func: &mut Func,
-    index: &mut Index,
-    rules: &[Rule],
+    spots: &mut Spots,
+    ruled: &Ruled,
     id: u32,
     target: Target,
     counts: Counts,
 ) -> Result<Counts, Stop>
-    requires { counts.greatest + (value_limit - counts.values) < 2 ^ 32 }
+    requires room { counts.greatest + (value_limit - counts.values) < 2 ^ 32 }
+    requires index { IsIndex ruled.now.rules.now ruled.now.index.now }
     ensures room { IfOk result (λ now. now.greatest + (value_limit - now.values) < 2 ^ 32) }
     ensures counted { IsCounted counts.greatest (value_limit - counts.values) func.old → IfOk result (λ now. IsCounted now.greatest (value_limit - now.values) func.new) }
-    ensures visits { IsCounted counts.greatest (value_limit - counts.values) func.old → OnOk result (Visits target rules.now func.old id func.new) }
-    ensures stops { IsCounted counts.greatest (value_limit - counts.values) func.old → IfErr result (λ e. e ≡ Stop.Grown → Stops target rules.now func.old id) }
+    ensures visits { IsCounted counts.greatest (value_limit - counts.values) func.old → OnOk result (Visits target ruled.now.rules.now func.old id func.new) }
+    ensures stops { IsCounted counts.greatest (value_limit - counts.values) func.old → IfErr result (λ e. e ≡ Stop.Grown → Stops target ruled.now.rules.now func.old id) }
 {
-    let Some(spot) = index.spot(func, id) else {
+    let Some(spot) = spots.spot(func, id) else {
         return Ok(counts);
     };
-    look_through(alloc, func, index, spot)?;
-    try_rules(alloc, func, index, rules, id, spot, target, counts)
+    look_through(alloc, func, spots, spot)?;
+    try_rules(alloc, func, spots, ruled, id, spot, target, counts)
 }
 
 /// Applies the first rule that matches at the value there, which has this number.
@@ -193,31 +227,33 @@ fn visit(
 fn try_rules(
     alloc: Global,
     func: &mut Func,
-    index: &mut Index,
-    rules: &[Rule],
+    spots: &mut Spots,
+    ruled: &Ruled,
     id: u32,
     spot: Spot,
     target: Target,
     counts: Counts,
 ) -> Result<Counts, Stop>
-    requires { counts.greatest + (value_limit - counts.values) < 2 ^ 32 }
+    requires room { counts.greatest + (value_limit - counts.values) < 2 ^ 32 }
+    requires index { IsIndex ruled.now.rules.now ruled.now.index.now }
     ensures room { IfOk result (λ now. now.greatest + (value_limit - now.values) < 2 ^ 32) }
     ensures counted { (v : ValueRecord) → Stands func.old id spot.block spot.place v → IsCounted counts.greatest (value_limit - counts.values) func.old → IfOk result (λ now. IsCounted now.greatest (value_limit - now.values) func.new) }
-    ensures tries { (v : ValueRecord) → Stands func.old id spot.block spot.place v → IsCounted counts.greatest (value_limit - counts.values) func.old → OnOk result (Tries target rules.now func.old id spot.block spot.place v func.new) }
-    ensures exceeds { IsCounted counts.greatest (value_limit - counts.values) func.old → IfErr result (λ e. e ≡ Stop.Grown → Exceeds target rules.now func.old id) }
+    ensures tries { (v : ValueRecord) → Stands func.old id spot.block spot.place v → IsCounted counts.greatest (value_limit - counts.values) func.old → OnOk result (Tries target ruled.now.rules.now func.old id spot.block spot.place v func.new) }
+    ensures exceeds { IsCounted counts.greatest (value_limit - counts.values) func.old → IfErr result (λ e. e ≡ Stop.Grown → Exceeds target ruled.now.rules.now func.old id) }
 {
     let site = Site {
         func,
-        index,
+        spots,
         value: id,
         target,
     };
-    let Some(found) = find(alloc, &site, rules)? else {
+    let Some(found) = find(alloc, &site, ruled)? else {
         return Ok(counts);
     };
+    let rules = ruled.rules;
     let rule = &rules[found.place];
     let made = apply_at(alloc, func, rule, spot, &found.binds, target, counts)?;
-    note_made(func, index, spot.block, made)?;
+    note_made(func, spots, spot.block, made)?;
     Ok(Counts {
         greatest: counts.greatest + made as u32,
         values: counts.values + made,
@@ -225,22 +261,22 @@ fn try_rules(
 }
 
 /// Notes where the last values of the block stand.
-fn note_made(func: &Func, index: &mut Index, block: usize, made: usize) -> Result<(), AllocError> {
+fn note_made(func: &Func, spots: &mut Spots, block: usize, made: usize) -> Result<(), AllocError> {
     let Some(each) = func.blocks.get(block) else {
         return Ok(());
     };
     let count = each.values.len();
     for place in count.saturating_sub(made)..count {
-        index.note(each.values[place].id, Spot { block, place })?;
+        spots.note(each.values[place].id, Spot { block, place })?;
     }
     Ok(())
 }
 
 /// Replaces each argument of the value there that is a Copy by what the Copy copies.
-fn look_through(alloc: Global, func: &mut Func, index: &Index, spot: Spot) -> Result<(), AllocError>
+fn look_through(alloc: Global, func: &mut Func, spots: &Spots, spot: Spot) -> Result<(), AllocError>
     ensures { (v : ValueRecord) → HasNumbers func.old → value_at func.old spot.block spot.place ≡ Some v → OnOk result (func.new ≡ with_looked_through func.old spot.block spot.place v) }
 {
-    let args = copied_args(alloc, func, index, spot)?;
+    let args = copied_args(alloc, func, spots, spot)?;
     put_args(func, spot, args);
     Ok(())
 }
@@ -248,13 +284,13 @@ fn look_through(alloc: Global, func: &mut Func, index: &Index, spot: Spot) -> Re
 fn copied_args(
     alloc: Global,
     func: &Func,
-    index: &Index,
+    spots: &Spots,
     spot: Spot,
 ) -> Result<SmallVec<u32, 4>, AllocError>
     ensures { (v : ValueRecord) → HasNumbers func.now → value_at func.now spot.block spot.place ≡ Some v → IfOk result (λ args. args.items ≡ map (copied_in func.now) v.args) }
 {
     match value_at(func, spot) {
-        Some(value) => copied_each(alloc, func, index, value.args.as_slice()),
+        Some(value) => copied_each(alloc, func, spots, value.args.as_slice()),
         None => Ok(SmallVec::new(alloc)),
     }
 }
@@ -263,23 +299,23 @@ fn copied_args(
 fn copied_each(
     alloc: Global,
     func: &Func,
-    index: &Index,
+    spots: &Spots,
     ids: &[u32],
 ) -> Result<SmallVec<u32, 4>, AllocError>
     ensures { HasNumbers func.now → IfOk result (λ args. args.items ≡ map (copied_in func.now) ids.now) }
 {
     let mut args = SmallVec::new(alloc);
     for id in ids {
-        push_arg(&mut args, copied(func, index, *id))?;
+        push_arg(&mut args, copied(func, spots, *id))?;
     }
     Ok(args)
 }
 
 /// What the number stands for, one Copy being looked through.
-fn copied(func: &Func, index: &Index, id: u32) -> u32
+fn copied(func: &Func, spots: &Spots, id: u32) -> u32
     ensures { HasNumbers func.now → result ≡ copied_in func.now id }
 {
-    match index.find(func, id) {
+    match spots.find(func, id) {
         Some(value) => copied_by(value, id),
         None => id,
     }

@@ -6,9 +6,9 @@ ghost use Rattle.bk_rewrite.specs.First.{IsNumbered};
 ghost use Rattle.bk_rewrite.specs.Places.{HasNumbers};
 ghost use Rattle.bk_rewrite.specs.Trials.{Binds, Misses, PatternsMatch, PatternsNumbered, sum_orders, most_variables, Stood, Failed};
 
-use crate::index::Index;
 use crate::ops::same_op;
 use crate::parts::{bind, bind_node};
+use crate::spots::Spots;
 use bk_func::Func;
 use bk_ops::{Op, op_info};
 use bk_rule::{Bound, Pattern};
@@ -34,7 +34,7 @@ pub(crate) struct Trail {
 #[derive(Clone, Copy)]
 pub(crate) struct Place<'a> {
     pub(crate) func: &'a Func,
-    pub(crate) index: &'a Index,
+    pub(crate) spots: &'a Spots,
     pub(crate) choices: &'a [bool],
 }
 
@@ -62,7 +62,7 @@ pub(crate) fn stand(
             aux,
             args,
         } => {
-            let Some(value) = at.index.find(at.func, id) else {
+            let Some(value) = at.spots.find(at.func, id) else {
                 return Ok(Verdict::Fails);
             };
             if !same_op(value.op, *op) {

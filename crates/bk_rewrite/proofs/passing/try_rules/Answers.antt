@@ -1,4 +1,3 @@
-use Rattle.bk_rewrite.specs.Making.{source}
 use Rattle.bk_rewrite.specs.Places.{value_limit}
 use Rattle.bk_rewrite.proofs.Rows.{told}
 use Rattle.bk_rewrite.proofs.Turns.{exceeds_by, applies_by, counted_by}
@@ -10,7 +9,7 @@ returns-in_err-made-clause-exceeds c = λ k.
     let m = c.in_ok-found.ensures.found k.numbers in
     let l = c.in_ok-found.ensures.place in
     told c.from_residual-in_err-made.result c.in_err-made.field-0.0 _ c.from_residual-in_err-made.ensures.1
-    (λ q. exceeds_by c.args.target c.args.rules.now c.args.func.now c.args.id c.in-Some.found.place c.args.counts.greatest (value_limit - c.args.counts.values)
+    (λ q. exceeds_by c.args.target c.args.ruled.now.rules.now c.args.func.now c.args.id c.in-Some.found.place c.args.counts.greatest (value_limit - c.args.counts.values)
     c.in-Some.found.binds.items c.deref.result.now c.in-Some.found.choices.items c.index-rules-found.result c.deref.ensures.value k
     (rw c.in-Some.is at m) (rw c.in-Some.is at l) c.index-rules-found.is (λ g. c.in_err-made.ensures.grown g q))
 
@@ -23,6 +22,6 @@ pub returns-clause-tries : goal.returns-clause-tries
 returns-clause-tries c = λ v s k.
     let m = c.in_ok-found.ensures.found k.numbers in
     let l = c.in_ok-found.ensures.place in
-    applies_by c.args.target c.args.rules.now c.args.func.now c.apply_at.new.func c.args.id c.args.spot.block c.args.spot.place c.in-Some.found.place c.args.counts.greatest (value_limit - c.args.counts.values) v
+    applies_by c.args.target c.args.ruled.now.rules.now c.args.func.now c.apply_at.new.func c.args.id c.args.spot.block c.args.spot.place c.in-Some.found.place c.args.counts.greatest (value_limit - c.args.counts.values) v
     c.in-Some.found.binds.items c.deref.result.now c.in-Some.found.choices.items c.index-rules-found.result c.deref.ensures.value k s
     (rw c.in-Some.is at m) (rw c.in-Some.is at l) c.index-rules-found.is c.in_ok-made.ensures.ok

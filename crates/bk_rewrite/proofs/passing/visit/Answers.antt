@@ -19,7 +19,7 @@ returns-clause-visits c = λ k.
     let f = c.args.func.now in
     let lk = looked f c.look_through.new.func c.args.id c.in-Some.spot.block c.in-Some.spot.place c.args.counts.greatest (value_limit - c.args.counts.values) c.in-Some.ensures k c.in_ok-look_through.ensures in
     on_ok_weaker c.try_rules.result
-    (looked_visits c.args.target c.args.rules.now f c.look_through.new.func c.try_rules.new.func c.args.id c.in-Some.spot.block c.in-Some.spot.place c.args.counts.greatest (value_limit - c.args.counts.values) lk)
+    (looked_visits c.args.target c.args.ruled.now.rules.now f c.look_through.new.func c.try_rules.new.func c.args.id c.in-Some.spot.block c.in-Some.spot.place c.args.counts.greatest (value_limit - c.args.counts.values) lk)
     (c.try_rules.ensures.tries (looked_through f lk.value) lk.here lk.counted)
 
 pub returns-clause-stops : goal.returns-clause-stops
@@ -27,5 +27,5 @@ returns-clause-stops c = λ k.
     let f = c.args.func.now in
     let lk = looked f c.look_through.new.func c.args.id c.in-Some.spot.block c.in-Some.spot.place c.args.counts.greatest (value_limit - c.args.counts.values) c.in-Some.ensures k c.in_ok-look_through.ensures in
     IfErr-weaker c.try_rules.result _ _
-    (λ e h q. looked_stops c.args.target c.args.rules.now f c.look_through.new.func c.args.id c.in-Some.spot.block c.in-Some.spot.place c.args.counts.greatest (value_limit - c.args.counts.values) lk (h q))
+    (λ e h q. looked_stops c.args.target c.args.ruled.now.rules.now f c.look_through.new.func c.args.id c.in-Some.spot.block c.in-Some.spot.place c.args.counts.greatest (value_limit - c.args.counts.values) lk (h q))
     (c.try_rules.ensures.exceeds lk.counted)

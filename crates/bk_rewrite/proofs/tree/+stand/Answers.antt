@@ -6,7 +6,7 @@ use Rattle.bk_func.specs.Numbers.{value_of}
 use Rattle.bk_rule.proofs.Opened.{opened}
 use Rattle.bk_rule.specs.Match.{Matches, is_commutative, swapped, orders, variables}
 use Rattle.bk_rewrite.specs.Trials.{PatternsNumbered, Stood}
-use Rattle.bk_rewrite.proofs.Spots.{named_id}
+use Rattle.bk_rewrite.proofs.Standings.{named_id}
 use Rattle.bk_rewrite.proofs.Standing.{looked_up, stood_node, failed_args, failed_op, orders_node, stood_var, numbered_parts, plain_order, chosen_order, stood_order, swapped_two, order_long, order_written, goes_on, failed_length, used_on}
 use Rattle.bk_rewrite.proofs.tree.+stand.Goals.{stand_args-else-swap-via-then-swap+else-ids-eq2, stand_args-else-swap-via-else-swap}
 use Rattle.bk_rewrite.proofs.tree.+stand.Goals as goal

@@ -1,8 +1,8 @@
-use Rattle.std.proofs.Common.{◌≡◌, ℕ, ◌+◌, ◌-◌, ◌<◌, ◌^◌}
+use Rattle.std.proofs.Common.{ℕ, ◌+◌, ◌-◌, ◌<◌, ◌^◌}
 use Rattle.bk_func.specs.Records.{FuncRecord}
 use Rattle.bk_rewrite.specs.Places.{value_limit, HasNumbers}
 use Rattle.bk_rewrite.specs.Passes.{IsCounted, Changes}
-use Rattle.bk_rewrite.proofs.passing.rewrite.Given as goal
+use Rattle.bk_rewrite.proofs.passing.rewrite_by.Given as goal
 
 abbrev pub invariant-loop-pass : goal.invariant-loop-pass
 invariant-loop-pass l = record {

@@ -4,7 +4,8 @@ ghost use Rattle.std.specs.Option.{option_copied};
 ghost use Rattle.bk_rewrite.specs.Places.{value_at, StandsAmong, StandsIn, StandsAt, HasNumbers};
 ghost use Rattle.bk_func.specs.Numbers.{value_of};
 
-use bk_func::{Block, Func, Value};
+use crate::applying::count_values;
+use bk_func::{Block, Func, Value, greatest_value};
 use std::alloc::{AllocError, Global};
 use std::collections::BTreeMap;
 
@@ -18,30 +19,57 @@ pub(crate) struct Spot {
 /// Where the values of a function stand, by number. What it says is looked up, so that it may be out of
 /// date; then the function is searched.
 #[derive(Drop)]
-pub(crate) struct Index {
-    spots: BTreeMap<u32, Spot>,
+pub(crate) struct Spots {
+    /// By number, where the numbers are not many more than the values.
+    near: Vec<Option<Spot>>,
+    /// Those of all others.
+    far: BTreeMap<u32, Spot>,
 }
 
-impl Index {
-    pub(crate) fn new(alloc: Global, func: &Func) -> Result<Index, AllocError> {
-        let mut spots = BTreeMap::new(alloc);
+impl Spots {
+    pub(crate) fn new(alloc: Global, func: &Func) -> Result<Spots, AllocError> {
+        let mut spots = Spots {
+            near: vec![in alloc; None; near_count(func)]?,
+            far: BTreeMap::new(alloc),
+        };
         for (block, each) in func.blocks.iter().enumerate() {
-            note_block(&mut spots, &each.values, block)?;
+            spots.note_block(&each.values, block)?;
         }
-        Ok(Index { spots })
+        Ok(spots)
+    }
+
+    fn note_block(&mut self, values: &[Value], block: usize) -> Result<(), AllocError> {
+        for (place, value) in values.iter().enumerate() {
+            self.note(value.id, Spot { block, place })?;
+        }
+        Ok(())
     }
 
     /// Notes where the value with this number stands.
     pub(crate) fn note(&mut self, id: u32, spot: Spot) -> Result<(), AllocError> {
-        self.spots.insert(id, spot)?;
+        let count = self.near.len();
+        if let Some(entry) = self.near.get_mut(id as usize) {
+            *entry = Some(spot);
+        } else if count > 0 && id as usize == count {
+            self.near.push(Some(spot))?;
+        } else {
+            self.far.insert(id, spot)?;
+        }
         Ok(())
+    }
+
+    fn noted(&self, id: u32) -> Option<Spot> {
+        match self.near.get(id as usize) {
+            Some(spot) => *spot,
+            None => self.far.get(&id).copied(),
+        }
     }
 
     /// Where the value with this number stands.
     pub(crate) fn spot(&self, func: &Func, id: u32) -> Option<Spot>
         ensures { MatchOption result ((b p : ℕ) → ¬ StandsAt func.now id b p) (λ s. StandsAt func.now id s.block s.place) }
     {
-        match self.spots.get(&id).copied() {
+        match self.noted(id) {
             Some(spot) if has_id(func, spot, id) => Some(spot),
             _ => first_spot(func, id),
         }
@@ -59,15 +87,15 @@ impl Index {
     }
 }
 
-fn note_block(
-    spots: &mut BTreeMap<u32, Spot>,
-    values: &[Value],
-    block: usize,
-) -> Result<(), AllocError> {
-    for (place, value) in values.iter().enumerate() {
-        spots.insert(value.id, Spot { block, place })?;
+/// How many numbers have an entry of their own: all up to the greatest, or none where that is far above the
+/// count of values.
+fn near_count(func: &Func) -> usize {
+    let greatest = greatest_value(func) as usize;
+    if greatest / 4 <= count_values(&func.blocks) {
+        greatest + 1
+    } else {
+        0
     }
-    Ok(())
 }
 
 pub(crate) fn value_at(func: &Func, spot: Spot) -> Option<&Value>

@@ -1,7 +1,7 @@
 use Rattle.std.proofs.Common.{ap, ◌∙◌, arith}
 use Rattle.bk_func.specs.Records.{ValueRecord}
-use Rattle.bk_rewrite.proofs.Spots.{not_here, nowhere}
-use Rattle.bk_rewrite.proofs.index.place_in.Goals as goal
+use Rattle.bk_rewrite.proofs.Standings.{not_here, nowhere}
+use Rattle.bk_rewrite.proofs.spots.place_in.Goals as goal
 
 pub loop-place-preserved : goal.loop-place-preserved
 loop-place-preserved c =

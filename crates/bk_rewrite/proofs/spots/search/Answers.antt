@@ -1,8 +1,8 @@
 use Rattle.std.proofs.Common.{List, ap, sym, subst, ◌∙◌, arith}
 use Rattle.bk_func.specs.Records.{ValueRecord, BlockRecord}
 use Rattle.bk_rewrite.specs.Places.{StandsAmong}
-use Rattle.bk_rewrite.proofs.Spots.{not_in_this, in_none}
-use Rattle.bk_rewrite.proofs.index.search.Goals as goal
+use Rattle.bk_rewrite.proofs.Standings.{not_in_this, in_none}
+use Rattle.bk_rewrite.proofs.spots.search.Goals as goal
 
 pub loop-block-preserved : goal.loop-block-preserved
 loop-block-preserved c =

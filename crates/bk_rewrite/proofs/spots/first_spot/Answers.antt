@@ -2,7 +2,7 @@ use Rattle.std.proofs.Common.{ℕ, List, ap, subst, ◌∙◌}
 use Rattle.std.specs.Prelude.{MatchOption}
 use Rattle.bk_func.specs.Records.{BlockRecord, FuncRecord}
 use Rattle.bk_rewrite.specs.Places.{StandsIn}
-use Rattle.bk_rewrite.proofs.index.first_spot.Goals as goal
+use Rattle.bk_rewrite.proofs.spots.first_spot.Goals as goal
 
 pub returns : goal.returns
 returns c =

@@ -2,7 +2,7 @@ use Rattle.std.proofs.Common.{rules, arith, sym, ap, ◌∙◌, ◌+◌}
 use Rattle.bk_func.specs.Records.{FuncRecord}
 use Rattle.bk_rewrite.proofs.Turns.{settles, outgrows, changes_on}
 use Rattle.bk_rewrite.proofs.Rounds.{refused_grown, changes_all}
-use Rattle.bk_rewrite.proofs.passing.rewrite.Goals as goal
+use Rattle.bk_rewrite.proofs.passing.rewrite_by.Goals as goal
 
 pub returns-then-not-passed-clause-settled : goal.returns-then-not-passed-clause-settled
 returns-then-not-passed-clause-settled c = λ u.
