@@ -43,38 +43,73 @@ argument_word s v = word_at s.own.args (place_of_arg v.aux)
 abbrev pub result_word : Signatures → ValueRecord → ℕ
 result_word s v = word_at (s.results (slice_index v.args 0)) (natural v.int)
 
--- what is made for a value in block b with the predecessors bs, numbered from n on
-abbrev pub made_by : Role → Signatures → ℕ → List ℕ → ℕ → ValueRecord → List Made
-made_by Phi s b bs n v = if is_wide v then halves_of_phi b bs n v.args else []
-made_by Argument s b bs n v =
-    if is_wide v then made b (argument n (argument_word s v)) ∷ made b (argument (n + 1) (argument_word s v + 1)) ∷ [] else []
-made_by Load s b bs n v =
+-- what is made for a value of each kind in block b, numbered from n on, and what the value becomes under its number
+
+abbrev pub phi_halves : ℕ → List ℕ → ℕ → ValueRecord → List Made
+phi_halves b bs n v = if is_wide v then halves_of_phi b bs n v.args else []
+
+abbrev pub turned_phi : List ℕ → ℕ → ValueRecord → ValueRecord
+turned_phi bs n v = if is_wide v then joined (high_phi bs n v.args) (phi_number op.Int64Lo n bs v.args) v else v
+
+-- an argument at word w
+abbrev pub argument_halves : ℕ → ℕ → ℕ → ValueRecord → List Made
+argument_halves b n w v = if is_wide v then made b (argument n w) ∷ made b (argument (n + 1) (w + 1)) ∷ [] else []
+
+abbrev pub turned_argument : ℕ → ℕ → ValueRecord → ValueRecord
+turned_argument n w v = if is_wide v then joined (n + 1) n v else record v { aux = beside.Arg w }
+
+abbrev pub load_halves : ℕ → ℕ → ValueRecord → List Made
+load_halves b n v =
     if is_wide v then
       made b (load n (slice_index v.args 0) (slice_index v.args 1)) ∷ made b (next_word (n + 1) (slice_index v.args 0))
       ∷ made b (load (n + 2) (n + 1) (slice_index v.args 1)) ∷ []
     else []
-made_by Store s b bs n v =
+
+abbrev pub turned_load : ℕ → ValueRecord → ValueRecord
+turned_load n v = if is_wide v then joined (n + 2) n v else v
+
+abbrev pub store_halves : ℕ → ℕ → ValueRecord → List Made
+store_halves b n v =
     if is_wide v then
       made b (half op.Int64Lo n (slice_index v.args 1)) ∷ made b (store (n + 1) (slice_index v.args 0 ∷ n ∷ slice_index v.args 2 ∷ []))
       ∷ made b (next_word (n + 2) (slice_index v.args 0)) ∷ made b (half op.Int64Hi (n + 3) (slice_index v.args 1)) ∷ []
     else []
+
+abbrev pub turned_store : ℕ → ValueRecord → ValueRecord
+turned_store n v = if is_wide v then record v { args = (n + 2) ∷ (n + 3) ∷ (n + 1) ∷ []; aux = beside.Ty Uint32 } else v
+
+-- what a call gave, from word w on
+abbrev pub selection_halves : ℕ → ℕ → ℕ → ValueRecord → List Made
+selection_halves b n w v =
+    if is_wide v then made b (selection n (slice_index v.args 0) w) ∷ made b (selection (n + 1) (slice_index v.args 0) (w + 1)) ∷ [] else []
+
+abbrev pub turned_selection : ℕ → ℕ → ValueRecord → ValueRecord
+turned_selection n w v = if is_wide v then joined (n + 1) n v else record v { int = pos w }
+
+-- what hands on numbers of these types
+abbrev pub handing : ℕ → List Ty → ValueRecord → ValueRecord
+handing n tys v = record v { args = in_words n tys v.args }
+
+-- what is made for a value in block b with the predecessors bs
+abbrev pub made_by : Role → Signatures → ℕ → List ℕ → ℕ → ValueRecord → List Made
+made_by Phi s b bs n v = phi_halves b bs n v
+made_by Argument s b bs n v = argument_halves b n (argument_word s v) v
+made_by Load s b bs n v = load_halves b n v
+made_by Store s b bs n v = store_halves b n v
 made_by Call s b bs n v = parts b n (s.args v.aux) v.args
-made_by Selection s b bs n v =
-    if is_wide v then
-      made b (selection n (slice_index v.args 0) (result_word s v)) ∷ made b (selection (n + 1) (slice_index v.args 0) (result_word s v + 1)) ∷ []
-    else []
+made_by Selection s b bs n v = selection_halves b n (result_word s v) v
 made_by Results s b bs n v = parts b n s.own.results v.args
 made_by Other s b bs n v = []
 
--- what the value becomes under its number
+-- what it becomes
 abbrev pub turned_by : Role → Signatures → List ℕ → ℕ → ValueRecord → ValueRecord
-turned_by Phi s bs n v = if is_wide v then joined (high_phi bs n v.args) (phi_number op.Int64Lo n bs v.args) v else v
-turned_by Argument s bs n v = if is_wide v then joined (n + 1) n v else record v { aux = beside.Arg (argument_word s v) }
-turned_by Load s bs n v = if is_wide v then joined (n + 2) n v else v
-turned_by Store s bs n v = if is_wide v then record v { args = n + 2 ∷ n + 3 ∷ n + 1 ∷ []; aux = beside.Ty Uint32 } else v
-turned_by Call s bs n v = record v { args = in_words n (s.args v.aux) v.args }
-turned_by Selection s bs n v = if is_wide v then joined (n + 1) n v else record v { int = pos (result_word s v) }
-turned_by Results s bs n v = record v { args = in_words n s.own.results v.args }
+turned_by Phi s bs n v = turned_phi bs n v
+turned_by Argument s bs n v = turned_argument n (argument_word s v) v
+turned_by Load s bs n v = turned_load n v
+turned_by Store s bs n v = turned_store n v
+turned_by Call s bs n v = handing n (s.args v.aux) v
+turned_by Selection s bs n v = turned_selection n (result_word s v) v
+turned_by Results s bs n v = handing n s.own.results v
 turned_by Other s bs n v = v
 
 abbrev pub made_for : Signatures → ℕ → List ℕ → ℕ → ValueRecord → List Made
@@ -97,8 +132,10 @@ placed ms bs = fold (λ cs m. change_block m.block (with_value m.value) cs) bs m
 abbrev pub made_of : PackageRecord → FuncRecord → List Made
 made_of p f = listed (made_in (signatures_of p f)) (greatest_value f + 1) f.blocks
 
+-- the function with its values turned, without those that are made for them
+abbrev pub turned_func : PackageRecord → FuncRecord → FuncRecord
+turned_func p f = record f { blocks = changed (made_in (signatures_of p f)) (turned_block (signatures_of p f)) (greatest_value f + 1) f.blocks }
+
 -- the function in halves
 abbrev pub decomposed : PackageRecord → FuncRecord → FuncRecord
-decomposed p f = record f {
-  blocks = placed (made_of p f) (changed (made_in (signatures_of p f)) (turned_block (signatures_of p f)) (greatest_value f + 1) f.blocks);
-}
+decomposed p f = record f { blocks = placed (made_of p f) (turned_func p f).blocks }

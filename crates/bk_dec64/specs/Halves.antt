@@ -94,7 +94,7 @@ parts b n tys (x ∷ xs) =
 -- the numbers with these halves in their places
 unfoldable pub in_words : ℕ → List Ty → List ℕ → List ℕ
 in_words n tys [] = []
-in_words n tys (x ∷ xs) = if first_is_double tys then n ∷ n + 1 ∷ in_words (n + 2) (drop 1 tys) xs else x ∷ in_words n (drop 1 tys) xs
+in_words n tys (x ∷ xs) = if first_is_double tys then n ∷ (n + 1) ∷ in_words (n + 2) (drop 1 tys) xs else x ∷ in_words n (drop 1 tys) xs
 
 -- the first word of the number at a place, where numbers have these types
 abbrev pub word_at : List Ty → ℕ → ℕ

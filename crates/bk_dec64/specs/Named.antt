@@ -3,12 +3,12 @@ use Rattle.std.specs.Prelude.{◌≡◌, ℕ, ◌<◌, ◌==◌, ◌||◌, if◌
 use Rattle.std.specs.BTreeMap.{get}
 use Rattle.std.specs.Option.{option_and_then}
 use Rattle.std.specs.Ordering.{nat_cmp}
-use Rattle.bk_ops.specs.declared.types.Ty.{Ty}
 use Rattle.bk_func.specs.declared.parts.Aux.{Aux}
 use Rattle.bk_func.specs.declared.parts.Aux.TheVariants as beside
 use Rattle.bk_func.specs.Records.{BlockRecord, FuncRecord}
 use Rattle.bk_func.specs.Symbols.{panic_divide, panic_shift}
-use Rattle.bk_dec64.specs.Signatures.{Signatures}
+use Rattle.bk_func.specs.Form.Signatures.{sig_in}
+use Rattle.bk_dec64.specs.Signatures.{Signatures, args_of, results_of}
 use Rattle.bk_dec64.specs.declared.callees.Callees.{Callees}
 use Rattle.bk_dec64.specs.declared.places.Places.{Places}
 use Rattle.bk_dec64.specs.declared.plan.Plan.{Plan}
@@ -28,14 +28,6 @@ callee_at c (beside.Sym s) =
     if s == panic_divide || s == panic_shift then None else option_and_then (slice_get c.pkg.now.funcs) (slice_index_or c.firsts.items s None)
 callee_at c _ = None
 
-abbrev pub args_in : Option FuncRecord → List Ty
-args_in None = []
-args_in (Some g) = g.sig.args
-
-abbrev pub results_in : Option FuncRecord → List Ty
-results_in None = []
-results_in (Some g) = g.sig.results
-
 -- the function that it has for a call
 abbrev pub callee_of : Callees → Option Aux → Option FuncRecord
 callee_of c None = None
@@ -43,7 +35,7 @@ callee_of c (Some a) = callee_at c a
 
 abbrev pub seen_plan : Plan → Signatures
 seen_plan p = record {
-  args = λ a. args_in (callee_at p.callees a);
-  results = λ n. results_in (callee_of p.callees (get nat_cmp p.calls n));
+  args = λ a. args_of (sig_in (callee_at p.callees a));
+  results = λ n. results_of (sig_in (callee_of p.callees (get nat_cmp p.calls n)));
   own = p.own;
 }

@@ -1,7 +1,9 @@
 // The callees of a package by their names.
 ghost use Rattle.std.specs.Prelude.{◌≡◌, ◌==◌, ◌<◌, ℕ, IfOk, option_copied, position, slice_index_or, slice_get, None, Some, length, if◌then◌else◌};
 ghost use Rattle.std.specs.Option.{option_or, option_and_then};
-ghost use Rattle.bk_dec64.specs.Named.{AreCallees, callee_at, args_in, results_in};
+ghost use Rattle.bk_func.specs.Form.Signatures.{sig_in};
+ghost use Rattle.bk_dec64.specs.Named.{AreCallees, callee_at};
+ghost use Rattle.bk_dec64.specs.Signatures.{args_of, results_of};
 
 use bk_func::{Aux, Func, PANIC_DIVIDE, PANIC_SHIFT, Package};
 use bk_ops::Ty;
@@ -37,7 +39,7 @@ impl<'a> Callees<'a> {
 
     /// The types of the arguments of the function that a call names.
     pub(crate) fn args(&self, aux: Aux) -> &'a [Ty]
-        ensures { result.now ≡ args_in (callee_at self.now aux) }
+        ensures { result.now ≡ args_of (sig_in (callee_at self.now aux)) }
     {
         match self.callee(aux) {
             Some(func) => &func.sig.args,
@@ -47,7 +49,7 @@ impl<'a> Callees<'a> {
 
     /// The types of the results of the function that a call names.
     pub(crate) fn results(&self, aux: Aux) -> &'a [Ty]
-        ensures { result.now ≡ results_in (callee_at self.now aux) }
+        ensures { result.now ≡ results_of (sig_in (callee_at self.now aux)) }
     {
         match self.callee(aux) {
             Some(func) => &func.sig.results,

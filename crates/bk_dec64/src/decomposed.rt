@@ -1,7 +1,7 @@
 // The function in halves.
 ghost use Rattle.std.specs.Prelude.{◌≡◌, ◌+◌, ◌++◌, OnOk, IfOk, IfErr, IfSome, ◌⊎◌, false, true, length, sum_by};
 ghost use Rattle.bk_dec64.specs.Budget.{is_grown, is_past};
-ghost use Rattle.bk_dec64.specs.Decomposed.{changed, decomposed, listed, made_for, made_in, turned, turned_block};
+ghost use Rattle.bk_dec64.specs.Decomposed.{changed, decomposed, listed, made_for, made_in, made_of, turned, turned_block, turned_func};
 ghost use Rattle.bk_dec64.specs.Named.{seen_plan};
 
 use crate::growth::Growth;
@@ -68,6 +68,8 @@ fn is_past(count: u64, more: u64) -> bool
 
 /// Turns the values of a function, and lists what is made for them.
 fn taken_apart(alloc: Global, func: &mut Func, pkg: &Package) -> Result<Growth, AllocError>
+    ensures func { OnOk result (func.new ≡ turned_func pkg.now func.old) }
+    ensures made { IfOk result (λ growth. growth.made.items ≡ made_of pkg.now func.old) }
 {
     let plan = Plan::new(alloc, func, pkg)?;
     let Some(next) = greatest_value(func).checked_add(1) else {
@@ -87,6 +89,8 @@ fn turn_blocks(
     blocks: &mut [Block],
     growth: &mut Growth,
 ) -> Result<(), AllocError>
+    ensures blocks { OnOk result (blocks.new ≡ changed (made_in (seen_plan plan.now)) (turned_block (seen_plan plan.now)) growth.old.next blocks.old) }
+    ensures made { OnOk result (growth.new.made.items ≡ growth.old.made.items ++ listed (made_in (seen_plan plan.now)) growth.old.next blocks.old) }
 {
     for block in blocks.iter_mut() {
         turn_block(alloc, plan, block, growth)?;
@@ -100,6 +104,9 @@ fn turn_block(
     block: &mut Block,
     growth: &mut Growth,
 ) -> Result<(), AllocError>
+    ensures block { OnOk result (block.new ≡ turned_block (seen_plan plan.now) growth.old.next block.old) }
+    ensures made { OnOk result (growth.new.made.items ≡ growth.old.made.items ++ made_in (seen_plan plan.now) growth.old.next block.old) }
+    ensures next { OnOk result (growth.new.next ≡ growth.old.next + length (made_in (seen_plan plan.now) growth.old.next block.old)) }
 {
     let home = Home {
         block: block.id,
@@ -115,6 +122,9 @@ fn turn_values(
     values: &mut [Value],
     growth: &mut Growth,
 ) -> Result<(), AllocError>
+    ensures values { OnOk result (values.new ≡ changed (made_for (seen_plan plan.now) home.now.block home.now.preds.now) (turned (seen_plan plan.now) home.now.preds.now) growth.old.next values.old) }
+    ensures made { OnOk result (growth.new.made.items ≡ growth.old.made.items ++ listed (made_for (seen_plan plan.now) home.now.block home.now.preds.now) growth.old.next values.old) }
+    ensures next { OnOk result (growth.new.next ≡ growth.old.next + length (listed (made_for (seen_plan plan.now) home.now.block home.now.preds.now) growth.old.next values.old)) }
 {
     for value in values.iter_mut() {
         turn(alloc, plan, home, value, growth)?;

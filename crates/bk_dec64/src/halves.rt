@@ -11,6 +11,7 @@ use smallvec::SmallVec;
 use std::alloc::{AllocError, Global};
 
 /// The number of a block, and those of its predecessors.
+#[derive(Clone, Copy)]
 pub(crate) struct Home<'a> {
     pub(crate) block: u32,
     pub(crate) preds: &'a [u32],

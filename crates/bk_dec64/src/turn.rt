@@ -1,8 +1,8 @@
 // What one value becomes.
 ghost use Rattle.std.specs.Prelude.{◌≡◌, ◌+◌, ◌++◌, ◌∷◌, [], OnOk, IfOk, length, pos, slice_index, if◌then◌else◌};
 ghost use Rattle.bk_func.specs.Numbers.{natural, place_of_arg};
-ghost use Rattle.bk_dec64.specs.Decomposed.{argument_word, is_wide, made_by, made_for, result_word, turned, turned_by, type_by};
-ghost use Rattle.bk_dec64.specs.Halves.{joined};
+ghost use Rattle.bk_dec64.specs.Decomposed.{argument_halves, argument_word, handing, is_wide, load_halves, made_for, phi_halves, result_word, selection_halves, store_halves, turned, turned_argument, turned_load, turned_phi, turned_selection, turned_store, type_by};
+ghost use Rattle.bk_dec64.specs.Halves.{joined, parts};
 ghost use Rattle.bk_dec64.specs.Named.{seen_plan};
 
 use crate::growth::{Growth, of_64};
@@ -82,9 +82,9 @@ fn turn_phi(
     value: &mut Value,
     growth: &mut Growth,
 ) -> Result<(), AllocError>
-    ensures value { OnOk result ((s : Signatures) → value.new ≡ turned_by Role.Phi s home.now.preds.now growth.old.next value.old) }
-    ensures made { OnOk result ((s : Signatures) → growth.new.made.items ≡ growth.old.made.items ++ made_by Role.Phi s home.now.block home.now.preds.now growth.old.next value.old) }
-    ensures next { OnOk result ((s : Signatures) → growth.new.next ≡ growth.old.next + length (made_by Role.Phi s home.now.block home.now.preds.now growth.old.next value.old)) }
+    ensures value { OnOk result (value.new ≡ turned_phi home.now.preds.now growth.old.next value.old) }
+    ensures made { OnOk result (growth.new.made.items ≡ growth.old.made.items ++ phi_halves home.now.block home.now.preds.now growth.old.next value.old) }
+    ensures next { OnOk result (growth.new.next ≡ growth.old.next + length (phi_halves home.now.block home.now.preds.now growth.old.next value.old)) }
 {
     if !is_wide(value) {
         return Ok(());
@@ -102,6 +102,9 @@ fn turn_argument(
     value: &mut Value,
     growth: &mut Growth,
 ) -> Result<(), AllocError>
+    ensures value { OnOk result (value.new ≡ turned_argument growth.old.next (argument_word (seen_plan plan.now) value.old) value.old) }
+    ensures made { OnOk result (growth.new.made.items ≡ growth.old.made.items ++ argument_halves block growth.old.next (argument_word (seen_plan plan.now) value.old) value.old) }
+    ensures next { OnOk result (growth.new.next ≡ growth.old.next + length (argument_halves block growth.old.next (argument_word (seen_plan plan.now) value.old) value.old)) }
 {
     let word = word_at(&plan.own.args, place_of_arg(value.aux) as usize)?;
     if !is_wide(value) {
@@ -138,6 +141,9 @@ fn turn_load(
     value: &mut Value,
     growth: &mut Growth,
 ) -> Result<(), AllocError>
+    ensures value { OnOk result (value.new ≡ turned_load growth.old.next value.old) }
+    ensures made { OnOk result (growth.new.made.items ≡ growth.old.made.items ++ load_halves block growth.old.next value.old) }
+    ensures next { OnOk result (growth.new.next ≡ growth.old.next + length (load_halves block growth.old.next value.old)) }
 {
     if !is_wide(value) {
         return Ok(());
@@ -156,6 +162,9 @@ fn turn_store(
     value: &mut Value,
     growth: &mut Growth,
 ) -> Result<(), AllocError>
+    ensures value { OnOk result (value.new ≡ turned_store growth.old.next value.old) }
+    ensures made { OnOk result (growth.new.made.items ≡ growth.old.made.items ++ store_halves block growth.old.next value.old) }
+    ensures next { OnOk result (growth.new.next ≡ growth.old.next + length (store_halves block growth.old.next value.old)) }
 {
     if !is_wide(value) {
         return Ok(());
@@ -179,6 +188,9 @@ fn turn_call(
     value: &mut Value,
     growth: &mut Growth,
 ) -> Result<(), AllocError>
+    ensures value { OnOk result (value.new ≡ handing growth.old.next ((seen_plan plan.now).args value.old.aux) value.old) }
+    ensures made { OnOk result (growth.new.made.items ≡ growth.old.made.items ++ parts block growth.old.next ((seen_plan plan.now).args value.old.aux) value.old.args) }
+    ensures next { OnOk result (growth.new.next ≡ growth.old.next + length (parts block growth.old.next ((seen_plan plan.now).args value.old.aux) value.old.args)) }
 {
     let types = plan.args(value.aux);
     value.args = in_words(alloc, block, types, value.args.as_slice(), growth)?;
@@ -192,6 +204,9 @@ fn turn_selection(
     value: &mut Value,
     growth: &mut Growth,
 ) -> Result<(), AllocError>
+    ensures value { OnOk result (value.new ≡ turned_selection growth.old.next (result_word (seen_plan plan.now) value.old) value.old) }
+    ensures made { OnOk result (growth.new.made.items ≡ growth.old.made.items ++ selection_halves block growth.old.next (result_word (seen_plan plan.now) value.old) value.old) }
+    ensures next { OnOk result (growth.new.next ≡ growth.old.next + length (selection_halves block growth.old.next (result_word (seen_plan plan.now) value.old) value.old)) }
 {
     let call = number_at(value.args.as_slice(), 0);
     let word = word_at(plan.results(call), natural(value.int))?;
@@ -218,6 +233,9 @@ fn turn_results(
     value: &mut Value,
     growth: &mut Growth,
 ) -> Result<(), AllocError>
+    ensures value { OnOk result (value.new ≡ handing growth.old.next (seen_plan plan.now).own.results value.old) }
+    ensures made { OnOk result (growth.new.made.items ≡ growth.old.made.items ++ parts block growth.old.next (seen_plan plan.now).own.results value.old.args) }
+    ensures next { OnOk result (growth.new.next ≡ growth.old.next + length (parts block growth.old.next (seen_plan plan.now).own.results value.old.args)) }
 {
     value.args = in_words(
         alloc,

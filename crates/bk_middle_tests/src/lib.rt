@@ -8,6 +8,8 @@
 #[cfg(test)]
 mod calls;
 #[cfg(test)]
+mod dec64;
+#[cfg(test)]
 mod emit;
 #[cfg(test)]
 mod graph;
