@@ -27,8 +27,8 @@ counted_all left n whole e before =
     let l : length left ≡ 0 = ap length e in
     omega (arith, l, before)
 
-element : {A : Type 0} (xs : List A) (i : ℕ) (x : A) → i < length xs → x ≡ get_or xs i x → drop i xs ≡ x ∷ drop (i + 1) xs
-element xs i x l is = drop-cons xs i x l ∙ (ap (λ y. y ∷ drop (suc i) xs) (sym is) ∙ ap (λ j. x ∷ drop j xs) (sym (add-one i)))
+element : (xs : List ℕ) (i : ℕ) → i < length xs → drop i xs ≡ get_or xs i 0 ∷ drop (i + 1) xs
+element xs i l = drop-cons xs i 0 l ∙ ap (λ j. get_or xs i 0 ∷ drop j xs) (sym (add-one i))
 
 -- halves of one number for each block
 
@@ -45,11 +45,13 @@ unfolding halves_in
 halves-none o n [] = refl
 halves-none o n (b ∷ bs) = refl
 
-pub halves_next : (o : Family) (n : ℕ) (bs xs : List ℕ) (i b x : ℕ) → i < min (length bs) (length xs) → b ≡ get_or bs i b → x ≡ get_or xs i x
-    → halves_in o n (drop i bs) (drop i xs) ≡ made b (half o n x) ∷ halves_in o (n + 1) (drop (i + 1) bs) (drop (i + 1) xs)
-halves_next o n bs xs i b x l eb ex =
-    ap (λ cs. halves_in o n cs (drop i xs)) (element bs i b (omega (arith, l)) eb)
-    ∙ (ap (λ ys. halves_in o n (b ∷ drop (i + 1) bs) ys) (element xs i x (omega (arith, l)) ex) ∙ halves-cons o n b x (drop (i + 1) bs) (drop (i + 1) xs))
+pub halves_next : (o : Family) (n m : ℕ) (bs xs : List ℕ) (i : ℕ) → i < min (length bs) (length xs) → m ≡ n + 1
+    → halves_in o n (drop i bs) (drop i xs) ≡ made (get_or bs i 0) (half o n (get_or xs i 0)) ∷ halves_in o m (drop (i + 1) bs) (drop (i + 1) xs)
+halves_next o n m bs xs i l next =
+    rw next
+    (ap (λ cs. halves_in o n cs (drop i xs)) (element bs i (omega (arith, l)))
+    ∙ (ap (λ ys. halves_in o n (get_or bs i 0 ∷ drop (i + 1) bs) ys) (element xs i (omega (arith, l)))
+    ∙ halves-cons o n (get_or bs i 0) (get_or xs i 0) (drop (i + 1) bs) (drop (i + 1) xs)))
 
 pub halves_all : (o : Family) (n : ℕ) (bs xs : List ℕ) (i : ℕ) → min (length bs) (length xs) ≤ i → halves_in o n (drop i bs) (drop i xs) ≡ []
 halves_all o n bs xs i l = ⊎_elim
@@ -91,11 +93,12 @@ part_more false b n x tys xs =
     let z : n + 0 ≡ n = omega arith in
     rw z refl
 
-pub parts_next : (b n : ℕ) (tys : List Ty) (xs : List ℕ) (i x : ℕ) → i < length xs → x ≡ get_or xs i x
-    → parts b n (drop i tys) (drop i xs) ≡ parts_of (double_at tys i) b n x ++ parts b (n + length (parts_of (double_at tys i) b n x)) (drop (i + 1) tys) (drop (i + 1) xs)
-parts_next b n tys xs i x l is =
-    ap (parts b n (drop i tys)) (element xs i x l is) ∙ (parts-cons b n (drop i tys) x (drop (i + 1) xs)
-    ∙ (rw (first_double tys i, dropped tys i) (part_more (double_at tys i) b n x (drop (i + 1) tys) (drop (i + 1) xs))))
+pub parts_next : (d : Bool) (b n m : ℕ) (tys : List Ty) (xs : List ℕ) (i : ℕ) → i < length xs → d ≡ double_at tys i
+    → m ≡ n + length (parts_of d b n (get_or xs i 0))
+    → parts b n (drop i tys) (drop i xs) ≡ parts_of d b n (get_or xs i 0) ++ parts b m (drop (i + 1) tys) (drop (i + 1) xs)
+parts_next d b n m tys xs i l is next =
+    ap (parts b n (drop i tys)) (element xs i l) ∙ (parts-cons b n (drop i tys) (get_or xs i 0) (drop (i + 1) xs)
+    ∙ (rw (next, is, first_double tys i, dropped tys i) (part_more (double_at tys i) b n (get_or xs i 0) (drop (i + 1) tys) (drop (i + 1) xs))))
 
 pub parts_all : (b n : ℕ) (tys : List Ty) (xs : List ℕ) (i : ℕ) → length xs ≤ i → parts b n (drop i tys) (drop i xs) ≡ []
 parts_all b n tys xs i l = ap (parts b n (drop i tys)) (drop_all i xs l) ∙ parts-nil b n (drop i tys)
@@ -116,12 +119,12 @@ word_more false b n x tys xs =
     let z : n + 0 ≡ n = omega arith in
     rw z refl
 
-pub words_next : (b n : ℕ) (tys : List Ty) (xs : List ℕ) (i x : ℕ) → i < length xs → x ≡ get_or xs i x
-    → in_words n (drop i tys) (drop i xs)
-    ≡ listed_words (words_of (double_at tys i) n x) ++ in_words (n + length (parts_of (double_at tys i) b n x)) (drop (i + 1) tys) (drop (i + 1) xs)
-words_next b n tys xs i x l is =
-    ap (in_words n (drop i tys)) (element xs i x l is) ∙ (in_words-cons n (drop i tys) x (drop (i + 1) xs)
-    ∙ (rw (first_double tys i, dropped tys i) (word_more (double_at tys i) b n x (drop (i + 1) tys) (drop (i + 1) xs))))
+pub words_next : (d : Bool) (b n m : ℕ) (tys : List Ty) (xs : List ℕ) (i : ℕ) → i < length xs → d ≡ double_at tys i
+    → m ≡ n + length (parts_of d b n (get_or xs i 0))
+    → in_words n (drop i tys) (drop i xs) ≡ listed_words (words_of d n (get_or xs i 0)) ++ in_words m (drop (i + 1) tys) (drop (i + 1) xs)
+words_next d b n m tys xs i l is next =
+    ap (in_words n (drop i tys)) (element xs i l) ∙ (in_words-cons n (drop i tys) (get_or xs i 0) (drop (i + 1) xs)
+    ∙ (rw (next, is, first_double tys i, dropped tys i) (word_more (double_at tys i) b n (get_or xs i 0) (drop (i + 1) tys) (drop (i + 1) xs))))
 
 pub words_all : (n : ℕ) (tys : List Ty) (xs : List ℕ) (i : ℕ) → length xs ≤ i → in_words n (drop i tys) (drop i xs) ≡ []
 words_all n tys xs i l = ap (in_words n (drop i tys)) (drop_all i xs l) ∙ in_words-nil n (drop i tys)

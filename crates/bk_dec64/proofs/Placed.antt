@@ -1,11 +1,12 @@
 -- Values that go last in blocks, which a table of places finds.
-use Rattle.std.proofs.Common.{◌≡◌, ◌∙◌, sym, ap, refl, ℕ, suc, ◌+◌, ◌<◌, ◌==◌, Bool, true, false, cond, not, List, [], ◌∷◌, length, take, get_or, Option, Some, None, position, nat_lt, if◌then◌else◌, ⊎_elim, arith}
+use Rattle.std.proofs.Common.{◌≡◌, ◌∙◌, sym, ap, refl, ℕ, suc, ◌+◌, ◌<◌, ◌≤◌, ◌==◌, Bool, true, false, cond, not, List, [], ◌∷◌, length, take, get_or, Option, Some, None, position, nat_lt, if◌then◌else◌, ⊎_elim, arith}
 use Rattle.std.specs.BTreeMap.{get, is_at}
 use Rattle.std.specs.List.{position_or_len}
 use Rattle.std.specs.Option.{option_or, unwrap_or}
 use Rattle.std.specs.Ordering.{nat_cmp}
-use Rattle.std.proofs.lemmas.Bool.{cases_eq, eq-eqb, ne_eqb}
+use Rattle.std.proofs.lemmas.Bool.{cases_eq, eq-eqb, ne_eqb, cases_lt, lt-ltb}
 use Rattle.std.proofs.lemmas.Bool.Decides.{nat_tests}
+use Rattle.std.proofs.lemmas.Option.{none-some}
 use Rattle.bk_func.specs.Records.{ValueRecord, BlockRecord}
 use Rattle.bk_func.specs.Edits.{change_block, with_value}
 use Rattle.bk_dec64.proofs.Found.{position_more}
@@ -61,5 +62,28 @@ kept_place id n v bs =
     ∙ ap (λ m. if nat_lt (position_or_len (λ b. b.id == n) bs) m then Some (position_or_len (λ b. b.id == n) bs) else None) (same_length id v bs)
 
 -- where no block has the number, nothing changes
+
+none_from : (id : ℕ) (g : BlockRecord → BlockRecord) (bs : List BlockRecord) → length bs ≤ position_or_len (λ b. b.id == id) bs → change_block id g bs ≡ bs
+unfolding change_block
+none_from id g [] h = refl
+none_from id g (b ∷ bs) h = one (b.id == id) refl (none_from id g bs)
+  where
+    one : (t : Bool) → (b.id == id) ≡ t → (length bs ≤ position_or_len (λ b. b.id == id) bs → change_block id g bs ≡ bs)
+        → (if b.id == id then g b ∷ bs else b ∷ change_block id g bs) ≡ b ∷ bs
+    one true e more =
+        let z : position_or_len (λ b. b.id == id) (b ∷ bs) ≡ 0 = ap (λ t. if not t then 1 + position_or_len (λ b. b.id == id) bs else 0) e in
+        absurd (omega (arith, z, h))
+    one false e more =
+        let z : position_or_len (λ b. b.id == id) (b ∷ bs) ≡ 1 + position_or_len (λ b. b.id == id) bs =
+        ap (λ t. if not t then 1 + position_or_len (λ b. b.id == id) bs else 0) e in
+        ap (λ t. if t then g b ∷ bs else b ∷ change_block id g bs) e ∙ ap (λ cs. b ∷ cs) (more (omega (arith, z, h)))
+
 pub none_changed : (id : ℕ) (v : ValueRecord) (bs : List BlockRecord) → position (λ b. b.id == id) bs ≡ None → change_block id (with_value v) bs ≡ bs
-none_changed id v bs h = ?
+none_changed id v bs h =
+    none_from id (with_value v) bs (⊎_elim
+    (λ l.
+      let s : position (λ b. b.id == id) bs ≡ Some (position_or_len (λ b. b.id == id) bs) =
+      rw (lt-ltb (position_or_len (λ b. b.id == id) bs) (length bs) l) refl in
+      absurd (none-some _ (sym h ∙ s)))
+    (λ g. g)
+    (cases_lt (position_or_len (λ b. b.id == id) bs) (length bs)))

@@ -1,9 +1,7 @@
 -- Tables of signatures that say what the package and the function say.
 use Rattle.std.proofs.Common.{◌≡◌, ◌∙◌, sym, ap, refl, ℕ, ◌<◌, ◌==◌, ◌||◌, Bool, true, false, if◌then◌else◌, List, [], length, get_or, flat_map, position, Option, Some, None, nat_lt}
-use Rattle.std.specs.BTreeMap.{get}
 use Rattle.std.specs.List.{find}
 use Rattle.std.specs.Option.{option_map}
-use Rattle.std.specs.Ordering.{nat_cmp}
 use Rattle.std.proofs.Math.Path.{fun_ext}
 use Rattle.bk_ops.specs.declared.types.Ty.{Ty}
 use Rattle.bk_func.specs.declared.parts.Aux.{Aux}
@@ -12,8 +10,7 @@ use Rattle.bk_func.specs.Records.{ValueRecord, BlockRecord, FuncRecord, SigRecor
 use Rattle.bk_func.specs.Form.Signatures.{sig_of, sig_in}
 use Rattle.bk_func.specs.Symbols.{panic_divide, panic_shift, no_sig}
 use Rattle.bk_dec64.specs.declared.callees.Callees.{Callees}
-use Rattle.bk_dec64.specs.declared.plan.Plan.{Plan}
-use Rattle.bk_dec64.specs.Named.{AreCallees, callee_at, callee_of, seen_plan}
+use Rattle.bk_dec64.specs.Named.{AreCallees, callee_at, callee_of, seen_tables}
 use Rattle.bk_dec64.specs.Signatures.{Signatures, args_of, results_of, call_named, given_by, signatures_of}
 use Rattle.bk_dec64.proofs.Found.{named_at}
 
@@ -46,15 +43,15 @@ same_signatures s t args results own =
     ap (λ (a : Aux → List Ty). all a s.results s.own) (fun_ext args)
     ∙ (ap (λ (r : ℕ → List Ty). all t.args r s.own) (fun_ext results) ∙ ap (λ (o : SigRecord). all t.args t.results o) own)
 
--- a plan whose tables say this of a function's blocks
-pub planned : (p : PackageRecord) (f : FuncRecord) (q : Plan) (bs : List BlockRecord) → AreCallees q.callees → q.callees.pkg.now ≡ p → bs ≡ f.blocks
-    → ((n : ℕ) → get nat_cmp q.calls n ≡ option_map (λ v. v.aux) (call_named (flat_map (λ b. b.values) bs) n)) → q.own ≡ f.sig
-    → seen_plan q ≡ signatures_of p f
-planned p f q bs h same blocks calls own =
-    same_signatures (seen_plan q) (signatures_of p f)
-    (λ a. same_sig args_of refl q.callees h a ∙ ap (λ (x : PackageRecord). args_of (sig_of x a)) same)
-    (λ n. ap (λ (o : Option Aux). results_of (sig_in (callee_of q.callees o))) (calls n)
-    ∙ (same_given q.callees h (call_named (flat_map (λ b. b.values) bs) n)
+-- tables that say this of a function's blocks
+pub planned : (p : PackageRecord) (f : FuncRecord) (c : Callees) (calls : ℕ → Option Aux) (own : SigRecord) (bs : List BlockRecord) → AreCallees c
+    → c.pkg.now ≡ p → bs ≡ f.blocks → ((n : ℕ) → calls n ≡ option_map (λ v. v.aux) (call_named (flat_map (λ b. b.values) bs) n)) → own ≡ f.sig
+    → seen_tables c calls own ≡ signatures_of p f
+planned p f c calls own bs h same blocks is sig =
+    same_signatures (seen_tables c calls own) (signatures_of p f)
+    (λ a. same_sig args_of refl c h a ∙ ap (λ (x : PackageRecord). args_of (sig_of x a)) same)
+    (λ n. ap (λ (o : Option Aux). results_of (sig_in (callee_of c o))) (is n)
+    ∙ (same_given c h (call_named (flat_map (λ b. b.values) bs) n)
     ∙ (ap (λ (x : PackageRecord). given_by x (call_named (flat_map (λ b. b.values) bs) n)) same
     ∙ ap (λ (cs : List BlockRecord). given_by p (call_named (flat_map (λ b. b.values) cs) n)) blocks)))
-    own
+    sig

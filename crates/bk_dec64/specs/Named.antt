@@ -5,7 +5,7 @@ use Rattle.std.specs.Option.{option_and_then}
 use Rattle.std.specs.Ordering.{nat_cmp}
 use Rattle.bk_func.specs.declared.parts.Aux.{Aux}
 use Rattle.bk_func.specs.declared.parts.Aux.TheVariants as beside
-use Rattle.bk_func.specs.Records.{BlockRecord, FuncRecord}
+use Rattle.bk_func.specs.Records.{BlockRecord, FuncRecord, SigRecord}
 use Rattle.bk_func.specs.Symbols.{panic_divide, panic_shift}
 use Rattle.bk_func.specs.Form.Signatures.{sig_in}
 use Rattle.bk_dec64.specs.Signatures.{Signatures, args_of, results_of}
@@ -33,9 +33,13 @@ abbrev pub callee_of : Callees → Option Aux → Option FuncRecord
 callee_of c None = None
 callee_of c (Some a) = callee_at c a
 
-abbrev pub seen_plan : Plan → Signatures
-seen_plan p = record {
-  args = λ a. args_of (sig_in (callee_at p.callees a));
-  results = λ n. results_of (sig_in (callee_of p.callees (get nat_cmp p.calls n)));
-  own = p.own;
+-- the signatures that these tables have
+abbrev pub seen_tables : Callees → (ℕ → Option Aux) → SigRecord → Signatures
+seen_tables c calls own = record {
+  args = λ a. args_of (sig_in (callee_at c a));
+  results = λ n. results_of (sig_in (callee_of c (calls n)));
+  own = own;
 }
+
+abbrev pub seen_plan : Plan → Signatures
+seen_plan p = seen_tables p.callees (λ n. get nat_cmp p.calls n) p.own

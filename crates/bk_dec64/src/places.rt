@@ -73,7 +73,10 @@ fn place(places: &Places, blocks: &mut [Block], one: Made) -> Result<(), AllocEr
 {
     let Made { block, value } = one;
     match places.find(block) {
-        Some(place) => push_last(&mut blocks[place], value),
+        Some(place) => {
+            push_last(&mut blocks[place], value)?;
+            Ok(())
+        }
         None => Ok(()),
     }
 }
