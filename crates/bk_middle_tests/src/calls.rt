@@ -7,7 +7,14 @@ use std::test::Fail;
 
 /// A value: its number, family, type, arguments, AuxInt and aux.
 #[derive(Clone, Copy)]
-struct Row<'a>(u32, Family, Ty, &'a [u32], i64, Aux);
+pub(crate) struct Row<'a>(
+    pub(crate) u32,
+    pub(crate) Family,
+    pub(crate) Ty,
+    pub(crate) &'a [u32],
+    pub(crate) i64,
+    pub(crate) Aux,
+);
 
 fn value(alloc: Global, row: &Row) -> Result<Value, AllocError> {
     Ok(Value {
@@ -32,14 +39,14 @@ fn types(alloc: Global, types: &[Ty]) -> Result<Vec<Ty>, AllocError> {
     Ok(copy)
 }
 
-fn sig(alloc: Global, args: &[Ty], results: &[Ty]) -> Result<Sig, AllocError> {
+pub(crate) fn sig(alloc: Global, args: &[Ty], results: &[Ty]) -> Result<Sig, AllocError> {
     Ok(Sig {
         args: types(alloc, args)?,
         results: types(alloc, results)?,
     })
 }
 
-fn values(alloc: Global, rows: &[Row]) -> Result<Vec<Value>, AllocError> {
+pub(crate) fn values(alloc: Global, rows: &[Row]) -> Result<Vec<Value>, AllocError> {
     let mut values = Vec::new(alloc);
     for row in rows {
         values.push(value(alloc, row)?)?;
@@ -75,7 +82,7 @@ fn func(
 }
 
 /// A package with the functions `f` and `g`, of which f has no body here.
-fn package(alloc: Global, args: &[Ty], results: &[Ty]) -> Result<Package, AllocError> {
+pub(crate) fn package(alloc: Global, args: &[Ty], results: &[Ty]) -> Result<Package, AllocError> {
     let mut names = Vec::new(alloc);
     let mut funcs = Vec::new(alloc);
     for name in ["f", "g"] {
@@ -90,7 +97,7 @@ fn package(alloc: Global, args: &[Ty], results: &[Ty]) -> Result<Package, AllocE
     })
 }
 
-fn is_row(value: &Value, row: &Row) -> bool {
+pub(crate) fn is_row(value: &Value, row: &Row) -> bool {
     value.id == row.0
         && value.op.family == row.1
         && value.ty == row.2

@@ -10,6 +10,8 @@ mod arm_emit;
 #[cfg(test)]
 mod calls;
 #[cfg(test)]
+mod dec64;
+#[cfg(test)]
 mod emit;
 #[cfg(test)]
 mod graph;

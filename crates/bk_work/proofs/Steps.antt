@@ -15,7 +15,7 @@ use Rattle.bk_calls.specs.declared.frame.FrameError.{FrameError}
 use Rattle.bk_calls.specs.declared.frame.FrameError.TheVariants as framing
 use Rattle.bk_calls.specs.Budget.{is_grown}
 use Rattle.bk_calls.specs.Frame.{need}
-use Rattle.bk_dec64.specs.Decomposed as halved
+use Rattle.bk_dec64.specs.Budget as halved
 use Rattle.bk_graph.specs.Critical.{without_critical}
 use Rattle.bk_graph.specs.Layout.{layout_of}
 use Rattle.bk_sched.specs.Schedule.{IsSchedule}
@@ -151,9 +151,9 @@ refused_rewrite t rules f e cases many big = ⊎_elim
     rest)
     cases
 
-pub unhalved_room : (pkg : PackageRecord) (rules : List Rule) (f : FuncRecord) (stop : Stop) → IfRefused stop (λ cause. (halved.is_grown f ≡ true) × (cause ≡ grown))
+pub unhalved_room : (pkg : PackageRecord) (rules : List Rule) (f : FuncRecord) (stop : Stop) → IfRefused stop (λ cause. (halved.is_grown pkg f ≡ true) × (cause ≡ grown))
     → IfRefused stop (IsUnhalved pkg rules f)
-unhalved_room pkg rules f stop = if_refused (λ cause. (halved.is_grown f ≡ true) × (cause ≡ grown)) (IsUnhalved pkg rules f) stop
+unhalved_room pkg rules f stop = if_refused (λ cause. (halved.is_grown pkg f ≡ true) × (cause ≡ grown)) (IsUnhalved pkg rules f) stop
     (λ cause h. subst (IsUnhalved pkg rules f) (sym h.1) (no_room h.0))
 
 pub unhalved_rules : {A : Type 0} (pkg : PackageRecord) (rules : List Rule) (f apart : FuncRecord) (r : Result A Stop) → IsDecomposed pkg f apart

@@ -1,7 +1,7 @@
 // A function from SSA form to the target's ops on words.
 ghost use Rattle.std.specs.Prelude.{◌≡◌, ℕ, Some, true, slice_get, IfErr, IfOk, OnOk};
 ghost use Rattle.bk_calls.specs.Budget.{is_grown};
-ghost use Rattle.bk_dec64.specs.Decomposed as halves;
+ghost use Rattle.bk_dec64.specs.Budget as halves;
 ghost use Rattle.bk_func.specs.Records.{FuncRecord};
 ghost use Rattle.bk_rewrite.specs.Passes.{Settles};
 ghost use Rattle.bk_rewrite.specs.Places.{HasNumbers, HasRoom};
@@ -150,7 +150,7 @@ fn in_halves(alloc: Global, pkg: &Package, func: Func, rules: &[Rule]) -> Result
 
 fn apart(alloc: Global, pkg: &Package, func: Func) -> Result<Func, Stop>
     ensures apart { IfOk result (IsDecomposed pkg.now func) }
-    ensures cause { IfErr result (λ stop. IfRefused stop (λ cause. (halves.is_grown func ≡ true) × (cause ≡ grown))) }
+    ensures cause { IfErr result (λ stop. IfRefused stop (λ cause. (halves.is_grown pkg.now func ≡ true) × (cause ≡ grown))) }
 {
     let mut func = func;
     decompose(alloc, &mut func, pkg)?;

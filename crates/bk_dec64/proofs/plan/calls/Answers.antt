@@ -1,0 +1,16 @@
+use Rattle.std.proofs.Common.{◌∙◌, ap, ◌==◌, ◌&&◌, List, option_map, arith}
+use Rattle.std.specs.BTreeMap.{get}
+use Rattle.std.specs.Option.{option_or}
+use Rattle.std.specs.Ordering.{nat_cmp}
+use Rattle.bk_func.specs.Records.{ValueRecord, BlockRecord}
+use Rattle.bk_dec64.specs.Signatures.{call_named, is_call, role}
+use Rattle.bk_dec64.proofs.Found.{found_in_more}
+use Rattle.bk_dec64.proofs.plan.calls.Goals as goal
+
+pub loop-block-preserved : goal.loop-block-preserved
+loop-block-preserved c = λ n.
+    found_in_more (λ (v : ValueRecord). v.aux) (λ (v : ValueRecord). is_call (role v) && v.id == n) (λ (b : BlockRecord). b.values) c.args.blocks.now
+    c.loop-block.block-index c.block-item.result (get nat_cmp c.loop-block.calls n) (get nat_cmp c.note_calls.new.map n) (omega arith) c.block-item.is
+    (c.loop-block.invariant n)
+    (c.in_ok-note_calls.ensures n ∙ ap (λ (vs : List ValueRecord). option_or (get nat_cmp c.loop-block.calls n) (option_map (λ (v : ValueRecord). v.aux) (call_named vs n)))
+    (c.deref.ensures.value ∙ ap (λ (b : BlockRecord). b.values) c.block.view_is))

@@ -1,0 +1,13 @@
+use Rattle.std.proofs.Common.{◌==◌, ◌&&◌, arith}
+use Rattle.std.specs.BTreeMap.{get}
+use Rattle.std.specs.Ordering.{nat_cmp}
+use Rattle.bk_func.specs.Records.{ValueRecord}
+use Rattle.bk_dec64.specs.Signatures.{is_call, role}
+use Rattle.bk_dec64.proofs.Found.{found_more}
+use Rattle.bk_dec64.proofs.plan.note_calls.Goals as goal
+
+pub loop-value-preserved : goal.loop-value-preserved
+loop-value-preserved c = λ n.
+    found_more (λ (v : ValueRecord). v.aux) (λ (v : ValueRecord). is_call (role v) && v.id == n) c.args.values.now c.loop-value.value-index
+    c.value-item.result (get nat_cmp c.args.map.now n) (get nat_cmp c.loop-value.map n) (get nat_cmp c.note_call.new.map n) (omega arith) c.value-item.is
+    (c.loop-value.invariant n) (c.in_ok-note_call.ensures n)
