@@ -1,12 +1,11 @@
 -- Halves that are made one after the other.
-use Rattle.std.proofs.Common.{◌≡◌, ◌∙◌, sym, ap, refl, ℕ, zero, suc, ◌+◌, ◌<◌, ◌≤◌, Bool, true, false, cond, List, [], ◌∷◌, ◌++◌, length, map, drop, get_or, append_assoc, append-nil, length-append, add-one, drop-cons, min, ⊎_elim, arith}
+use Rattle.std.proofs.Common.{◌≡◌, ◌∙◌, sym, ap, refl, ℕ, zero, suc, ◌+◌, ◌<◌, ◌≤◌, Bool, true, false, cond, List, [], ◌∷◌, ◌++◌, length, drop, get_or, append_assoc, append-nil, length-append, add-one, drop-cons, min, ⊎_elim, arith}
 use Rattle.std.proofs.lemmas.Bool.{cases_lt}
 use Rattle.std.proofs.lemmas.List.{drop_all}
 use Rattle.bk_ops.specs.declared.family.Family.{Family}
 use Rattle.bk_ops.specs.declared.family.Family.TheVariants as op
 use Rattle.bk_ops.specs.declared.types.Ty.{Ty}
-use Rattle.bk_dec64.specs.declared.made.Made.{Made}
-use Rattle.bk_dec64.specs.Halves.{made, half, halves_in, numbers, first_is_double, parts, in_words}
+use Rattle.bk_dec64.specs.Halves.{made, half, halves_in, first_is_double, parts, in_words}
 use Rattle.bk_dec64.specs.Words.{double_at, words_of, parts_of, listed_words}
 
 -- lists that grow towards a whole

@@ -1,6 +1,6 @@
 -- Values that go last in blocks, which a table of places finds.
 use Rattle.std.proofs.Common.{◌≡◌, ◌∙◌, sym, ap, refl, ℕ, suc, ◌+◌, ◌<◌, ◌≤◌, ◌==◌, Bool, true, false, cond, not, List, [], ◌∷◌, length, take, get_or, Option, Some, None, position, nat_lt, if◌then◌else◌, ⊎_elim, arith}
-use Rattle.std.specs.BTreeMap.{get, is_at}
+use Rattle.std.specs.BTreeMap.{is_at}
 use Rattle.std.specs.List.{position_or_len}
 use Rattle.std.specs.Option.{option_or, unwrap_or}
 use Rattle.std.specs.Ordering.{nat_cmp}
@@ -82,8 +82,8 @@ pub none_changed : (id : ℕ) (v : ValueRecord) (bs : List BlockRecord) → posi
 none_changed id v bs h =
     none_from id (with_value v) bs (⊎_elim
     (λ l.
-      let s : position (λ b. b.id == id) bs ≡ Some (position_or_len (λ b. b.id == id) bs) =
-      rw (lt-ltb (position_or_len (λ b. b.id == id) bs) (length bs) l) refl in
-      absurd (none-some _ (sym h ∙ s)))
+    let s : position (λ b. b.id == id) bs ≡ Some (position_or_len (λ b. b.id == id) bs) =
+    rw (lt-ltb (position_or_len (λ b. b.id == id) bs) (length bs) l) refl in
+    absurd (none-some _ (sym h ∙ s)))
     (λ g. g)
     (cases_lt (position_or_len (λ b. b.id == id) bs) (length bs)))

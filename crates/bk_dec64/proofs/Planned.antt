@@ -1,5 +1,5 @@
 -- Tables of signatures that say what the package and the function say.
-use Rattle.std.proofs.Common.{◌≡◌, ◌∙◌, sym, ap, refl, ℕ, ◌<◌, ◌==◌, ◌||◌, Bool, true, false, if◌then◌else◌, List, [], length, get_or, flat_map, position, Option, Some, None, nat_lt}
+use Rattle.std.proofs.Common.{◌≡◌, ◌∙◌, ap, refl, ℕ, ◌==◌, ◌||◌, Bool, true, false, if◌then◌else◌, List, length, flat_map, Option, Some, None, nat_lt}
 use Rattle.std.specs.List.{find}
 use Rattle.std.specs.Option.{option_map}
 use Rattle.std.proofs.Math.Path.{fun_ext}

@@ -61,8 +61,8 @@ turned_argument n w v = if is_wide v then joined (n + 1) n v else record v { aux
 abbrev pub load_halves : ℕ → ℕ → ValueRecord → List Made
 load_halves b n v =
     if is_wide v then
-      made b (load n (slice_index v.args 0) (slice_index v.args 1)) ∷ made b (next_word (n + 1) (slice_index v.args 0))
-      ∷ made b (load (n + 2) (n + 1) (slice_index v.args 1)) ∷ []
+    made b (load n (slice_index v.args 0) (slice_index v.args 1)) ∷ made b (next_word (n + 1) (slice_index v.args 0))
+    ∷ made b (load (n + 2) (n + 1) (slice_index v.args 1)) ∷ []
     else []
 
 abbrev pub turned_load : ℕ → ValueRecord → ValueRecord
@@ -71,8 +71,8 @@ turned_load n v = if is_wide v then joined (n + 2) n v else v
 abbrev pub store_halves : ℕ → ℕ → ValueRecord → List Made
 store_halves b n v =
     if is_wide v then
-      made b (half op.Int64Lo n (slice_index v.args 1)) ∷ made b (store (n + 1) (slice_index v.args 0 ∷ n ∷ slice_index v.args 2 ∷ []))
-      ∷ made b (next_word (n + 2) (slice_index v.args 0)) ∷ made b (half op.Int64Hi (n + 3) (slice_index v.args 1)) ∷ []
+    made b (half op.Int64Lo n (slice_index v.args 1)) ∷ made b (store (n + 1) (slice_index v.args 0 ∷ n ∷ slice_index v.args 2 ∷ []))
+    ∷ made b (next_word (n + 2) (slice_index v.args 0)) ∷ made b (half op.Int64Hi (n + 3) (slice_index v.args 1)) ∷ []
     else []
 
 abbrev pub turned_store : ℕ → ValueRecord → ValueRecord

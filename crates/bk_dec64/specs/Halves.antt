@@ -1,14 +1,13 @@
 -- The values that stand for the halves of numbers of 64 bits.
 --
 -- Each half is a `uint32`. In a list of words the low half stands first, in memory it has the lower address.
-use Rattle.std.specs.Prelude.{ℕ, ℤ, pos, ◌+◌, Bool, false, if◌then◌else◌, List, [], ◌∷◌, ◌++◌, length, map, drop, take, slice_index}
+use Rattle.std.specs.Prelude.{ℕ, pos, ◌+◌, Bool, false, if◌then◌else◌, List, [], ◌∷◌, ◌++◌, length, map, drop, take}
 use Rattle.bk_ops.specs.declared.family.Family.{Family}
 use Rattle.bk_ops.specs.declared.family.Family.TheVariants as op
 use Rattle.bk_ops.specs.declared.table.Op.{Op}
 use Rattle.bk_ops.specs.declared.types.Target.TheVariants.{Arm}
 use Rattle.bk_ops.specs.declared.types.Ty.{Ty}
 use Rattle.bk_ops.specs.declared.types.Ty.TheVariants.{Uint32, Ptr, Mem}
-use Rattle.bk_func.specs.declared.parts.Aux.{Aux}
 use Rattle.bk_func.specs.declared.parts.Aux.TheVariants as beside
 use Rattle.bk_func.specs.Records.{ValueRecord}
 use Rattle.bk_func.specs.Edits.{value_of}

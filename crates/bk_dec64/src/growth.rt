@@ -84,11 +84,7 @@ impl Growth {
     }
 
     /// Makes a phi of halves, and gives its number.
-    pub(crate) fn phi(
-        &mut self,
-        block: u32,
-        args: SmallVec<u32, 4>,
-    ) -> Result<u32, AllocError>
+    pub(crate) fn phi(&mut self, block: u32, args: SmallVec<u32, 4>) -> Result<u32, AllocError>
         ensures made { OnOk result (self.new.made.items ≡ self.old.made.items ++ made block (phi self.old.next args.items) ∷ []) }
         ensures next { OnOk result (self.new.next ≡ self.old.next + 1) }
         ensures number { IfOk result (λ n. n ≡ self.old.next) }
@@ -171,13 +167,7 @@ pub(crate) fn of_64(family: Family) -> Op
     }
 }
 
-fn made_value(
-    alloc: Global,
-    number: u32,
-    op: Op,
-    ty: Ty,
-    args: &[u32],
-) -> Result<Value, AllocError>
+fn made_value(alloc: Global, number: u32, op: Op, ty: Ty, args: &[u32]) -> Result<Value, AllocError>
     ensures { IfOk result (λ value. value ≡ value_of number op ty args.now (pos 0) Aux.Nothing) }
 {
     Ok(Value {

@@ -26,12 +26,7 @@ fn block(alloc: Global, part: &Part) -> Result<Block, AllocError> {
 }
 
 /// A function of these blocks that takes and gives numbers of these types.
-fn func(
-    alloc: Global,
-    args: &[Ty],
-    results: &[Ty],
-    parts: &[Part],
-) -> Result<Func, AllocError> {
+fn func(alloc: Global, args: &[Ty], results: &[Ty], parts: &[Part]) -> Result<Func, AllocError> {
     let mut blocks = Vec::new(alloc);
     for part in parts {
         blocks.push(block(alloc, part)?)?;

@@ -1,4 +1,4 @@
-use Rattle.std.proofs.Common.{◌∙◌, ap, ◌++◌, ◌<◌, ◌≤◌, length, arith}
+use Rattle.std.proofs.Common.{◌∙◌, ap, ◌++◌, ◌<◌, length, arith}
 use Rattle.bk_dec64.specs.Words.{listed_words}
 use Rattle.bk_dec64.proofs.InWords.{grown, grown_all, counted, counted_all, parts_next, parts_all, words_next, words_all}
 use Rattle.bk_dec64.proofs.halves.in_words.Goals as goal
