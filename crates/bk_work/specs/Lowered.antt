@@ -8,7 +8,7 @@ use Rattle.bk_rule.specs.declared.trees.Rule.{Rule}
 use Rattle.bk_rewrite.specs.Passes.{Settles}
 use Rattle.bk_calls.specs.Areas.{areas_of}
 use Rattle.bk_calls.specs.Budget.{is_grown}
-use Rattle.bk_dec64.specs.Budget as halves
+use Rattle.bk_dec64.specs.Budget as halved
 use Rattle.bk_dec64.specs.Decomposed.{decomposed}
 use Rattle.bk_work.specs.Rules.{RulesRecord}
 
@@ -33,7 +33,7 @@ pub record IsSettled (t : Target) (rules : List Rule) (f g : FuncRecord) : Type 
 
 -- values of 64 bits that come from outside or go there are in halves, for which there was room
 pub record IsDecomposed (pkg : PackageRecord) (f g : FuncRecord) : Type 0 where
-  pub room : halves.is_grown pkg f ≡ false
+  pub room : halved.is_grown pkg f ≡ false
   pub apart : g ≡ decomposed pkg f
 
 -- and what is computed of them is computed of halves

@@ -8,7 +8,7 @@ use Rattle.bk_func.specs.Records.{FuncRecord, PackageRecord}
 use Rattle.bk_rule.specs.declared.trees.Rule.{Rule}
 use Rattle.bk_rewrite.specs.Passes.{Changes, Outgrows}
 use Rattle.bk_calls.specs.Budget.{is_grown}
-use Rattle.bk_dec64.specs.Budget as halves
+use Rattle.bk_dec64.specs.Budget as halved
 use Rattle.bk_work.specs.declared.refusals.Cause.{Cause}
 use Rattle.bk_work.specs.declared.refusals.Cause.TheVariants.{Construct, Passes, Grown, Frame}
 use Rattle.bk_work.specs.Framed.{IsTooDeep}
@@ -32,7 +32,7 @@ pub data IsUnsettled (t : Target) (rules : List Rule) (f : FuncRecord) : Cause �
 
 -- there is no room for halves, or what is computed of them doesn't settle
 pub data IsUnhalved (pkg : PackageRecord) (rules : List Rule) (f : FuncRecord) : Cause → Type 0 where
-  no_room : halves.is_grown pkg f ≡ true → IsUnhalved pkg rules f grown
+  no_room : halved.is_grown pkg f ≡ true → IsUnhalved pkg rules f grown
   unsettled : (apart : FuncRecord) (cause : Cause) → IsDecomposed pkg f apart → IsUnsettled Arm rules apart cause → IsUnhalved pkg rules f cause
 
 -- a word of riscv64 always holds a value
