@@ -51,6 +51,21 @@ fn is_value(value: &Value, row: &Row) -> bool {
     is_row(value, row) && value.op.a == bits(row.1)
 }
 
+/// Whether the function's block at a place has these values.
+fn is_block(func: &Func, place: usize, rows: &[Row]) -> bool {
+    match func.blocks.get(place) {
+        Some(block) => {
+            block.values.len() == rows.len()
+                && block
+                    .values
+                    .iter()
+                    .zip(rows)
+                    .all(|(value, row)| is_value(value, row))
+        }
+        None => false,
+    }
+}
+
 /// Whether the function's blocks have these numbers and values.
 fn is_func(func: &Func, parts: &[Part]) -> bool {
     func.blocks.len() == parts.len()
@@ -163,53 +178,53 @@ fn numbers_in_calls(rt: HostRuntime) -> Result<(), Fail> {
     Ok(())
 }
 
+/// A function of three blocks with these values, of which the third goes back to the second.
+fn looped(alloc: Global, first: &[Row], second: &[Row], third: &[Row]) -> Result<Func, AllocError> {
+    let mut blocks = Vec::new(alloc);
+    blocks.push(block(alloc, &Part(1, &[], first))?)?;
+    blocks.push(block(alloc, &Part(2, &[1, 3], second))?)?;
+    blocks.push(block(alloc, &Part(3, &[2], third))?)?;
+    Ok(Func {
+        name: 0,
+        sig: sig(alloc, &[Ty::Int64], &[])?,
+        blocks,
+        given: 0,
+    })
+}
+
 // A loop over b2 and b3 that doubles an int64: the halves of what comes round stand in b1 and in b3.
 #[test]
 fn phis_of_halves(rt: HostRuntime) -> Result<(), Fail> {
     let alloc = rt.alloc();
     let none = Aux::Nothing;
     let pkg = package(alloc, &[], &[])?;
-    let first = [
+    let rows = [
         Row(1, Family::InitMem, Ty::Mem, &[], 0, none),
         Row(2, Family::Arg, Ty::Int64, &[], 0, Aux::Arg(0)),
-    ];
-    let second = [
         Row(3, Family::Phi, Ty::Int64, &[2, 5], 0, none),
         Row(4, Family::Phi, Ty::Mem, &[1, 4], 0, none),
+        Row(5, Family::Add, Ty::Int64, &[3, 3], 0, none),
     ];
-    let third = [Row(5, Family::Add, Ty::Int64, &[3, 3], 0, none)];
-    let parts = [
-        Part(1, &[], &first),
-        Part(2, &[1, 3], &second),
-        Part(3, &[2], &third),
-    ];
-    let mut it = func(alloc, &[Ty::Int64], &[], &parts)?;
+    let mut it = looped(alloc, &rows[..2], &rows[2..4], &rows[4..])?;
     assert_eq!(rt; decompose(alloc, &mut it, &pkg), Ok(()));
-    let first = [
+    let expected = [
         Row(1, Family::InitMem, Ty::Mem, &[], 0, none),
         Row(2, Family::Int64Make, Ty::Int64, &[7, 6], 0, none),
         Row(6, Family::Arg, Ty::Uint32, &[], 0, Aux::Arg(0)),
         Row(7, Family::Arg, Ty::Uint32, &[], 0, Aux::Arg(1)),
         Row(8, Family::Int64Lo, Ty::Uint32, &[2], 0, none),
         Row(11, Family::Int64Hi, Ty::Uint32, &[2], 0, none),
-    ];
-    let second = [
         Row(3, Family::Int64Make, Ty::Int64, &[13, 10], 0, none),
         Row(4, Family::Phi, Ty::Mem, &[1, 4], 0, none),
         Row(10, Family::Phi, Ty::Uint32, &[8, 9], 0, none),
         Row(13, Family::Phi, Ty::Uint32, &[11, 12], 0, none),
-    ];
-    let third = [
         Row(5, Family::Add, Ty::Int64, &[3, 3], 0, none),
         Row(9, Family::Int64Lo, Ty::Uint32, &[5], 0, none),
         Row(12, Family::Int64Hi, Ty::Uint32, &[5], 0, none),
     ];
-    let expected = [
-        Part(1, &[], &first),
-        Part(2, &[1, 3], &second),
-        Part(3, &[2], &third),
-    ];
-    assert!(rt; is_func(&it, &expected));
+    assert!(rt; is_block(&it, 0, &expected[..6]));
+    assert!(rt; is_block(&it, 1, &expected[6..10]));
+    assert!(rt; is_block(&it, 2, &expected[10..]));
     Ok(())
 }
 
