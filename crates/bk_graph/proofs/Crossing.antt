@@ -1,5 +1,5 @@
 -- The critical edges of a function in form are edges, and are few.
-use Rattle.std.proofs.Common.{◌≡◌, ◌∙◌, sym, refl, ap, subst, ℕ, zero, suc, ◌+◌, ◌*◌, ◌<◌, ◌≤◌, ◌==◌, ◌^◌, Bool, true, false, if◌then◌else◌, nat_lt, List, [], ◌∷◌, length, get_or, Option, Some, IsSome, ⊎_elim, arith, zero-add}
+use Rattle.std.proofs.Common.{◌≡◌, ◌∙◌, sym, refl, ap, subst, ℕ, zero, suc, ◌+◌, ◌*◌, ◌<◌, ◌≤◌, ◌==◌, ◌^◌, Bool, true, false, if◌then◌else◌, nat_lt, List, [], ◌∷◌, length, get_or, Some, IsSome, ⊎_elim, arith, zero-add}
 use Rattle.std.specs.Prelude.{slice_index}
 use Rattle.std.specs.List.{find, position_or_len, count_by, Contains, flat_map}
 use Rattle.std.proofs.lemmas.Bool.{cases_order, eq-eqb, lt-ltb}
@@ -8,12 +8,9 @@ use Rattle.std.proofs.lemmas.List.Elements.{Contains-get_or, Contains-append_rig
 use Rattle.std.proofs.lemmas.List.Folds.{find_at}
 use Rattle.std.proofs.lemmas.List.Sums.{passes_at_first, sum_by-le}
 use Rattle.std.proofs.lemmas.Option.{slice_get-get_or}
-use Rattle.bk_func.specs.declared.form.FormKind.TheVariants.{Control, Missing}
-use Rattle.bk_func.specs.declared.parts.Kind.{Kind}
-use Rattle.bk_func.specs.declared.parts.Kind.TheVariants.{Plain, If, First, Ret, Exit}
 use Rattle.bk_func.specs.Records.{BlockRecord, FuncRecord}
 use Rattle.bk_func.specs.Edits.{greatest_block, place_of, IsEdge}
-use Rattle.bk_func.specs.Form.Parts.{FitsKind, IsBlockNumber}
+use Rattle.bk_func.specs.Form.Parts.{IsBlockNumber}
 use Rattle.bk_graph.specs.Joined.{IsJoined}
 use Rattle.bk_graph.specs.Critical.{EdgeRecord, AreEdges, has_several, edge_at, edges_from, critical_in, critical_edges}
 use Rattle.bk_graph.proofs.Listed.{two_counted, counted_at}

@@ -11,7 +11,6 @@ use Rattle.std.proofs.lemmas.Bool.Decides.{nat_tests}
 use Rattle.std.proofs.lemmas.List.Folds.{find_at}
 use Rattle.std.proofs.lemmas.List.Sums.{passes_at_first, fails_before_first}
 use Rattle.std.proofs.lemmas.Option.{slice_get_cases, none-some}
-use Rattle.bk_func.specs.declared.form.FormKind.TheVariants.{Missing}
 use Rattle.bk_func.specs.declared.parts.Likely.{Likely}
 use Rattle.bk_func.specs.declared.parts.Likely.TheVariants.{No, First, Second}
 use Rattle.bk_func.specs.Records.{BlockRecord, FuncRecord}

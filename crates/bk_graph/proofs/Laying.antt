@@ -1,16 +1,15 @@
 -- Blocks in form by their places: each number has one place, and predecessors and successors agree.
-use Rattle.std.proofs.Common.{◌≡◌, ◌∙◌, sym, refl, ap, ℕ, zero, suc, ◌+◌, ◌<◌, ◌==◌, Bool, true, false, cond, if◌then◌else◌, nat_lt, List, [], ◌∷◌, length, get_or, Some, ⊎_elim, arith, add-zero, zero-add, position}
-use Rattle.std.specs.List.{list_any, position_or_len, count_by, sum_by, slice_get, Contains}
-use Rattle.std.proofs.lemmas.Bool.{cases_order, cases_eq, eq-eqb, ne_eqb, lt-ltb}
-use Rattle.std.proofs.lemmas.List.Sums.{passes_at_first, sum_by-cons}
+use Rattle.std.proofs.Common.{◌≡◌, ◌∙◌, ap, ℕ, ◌<◌, ◌==◌, Bool, true, List, length, get_or, Some, ⊎_elim, arith, position}
+use Rattle.std.specs.List.{list_any, position_or_len, count_by, slice_get}
+use Rattle.std.proofs.lemmas.Bool.{cases_order, eq-eqb, lt-ltb}
+use Rattle.std.proofs.lemmas.List.Sums.{passes_at_first}
 use Rattle.std.proofs.lemmas.Option.{slice_get_within, get_or_from_slice_get}
-use Rattle.bk_func.specs.declared.form.FormKind.TheVariants.{Control, Missing}
 use Rattle.bk_func.specs.Records.{BlockRecord, FuncRecord}
 use Rattle.bk_func.specs.Form.Text.{HasBlock}
 use Rattle.bk_graph.specs.Joined.{IsJoined}
 use Rattle.bk_graph.specs.Named.{block_ids}
 use Rattle.bk_graph.proofs.Crossing.{counted_once}
-use Rattle.bk_graph.proofs.Listed.{two_counted, one_counted, counted_at, position-map}
+use Rattle.bk_graph.proofs.Listed.{two_counted, counted_at, position-map}
 
 pub once : (f : FuncRecord) → IsJoined f → (b : BlockRecord) → HasBlock f b → count_by (λ c. c.id == b.id) f.blocks ≡ 1
 once f g b h = counted_once f b.id (g.own b h)

@@ -1,34 +1,8 @@
--- What stands for a value, step by step; what is picked, place by place.
-use Rattle.std.proofs.Common.{◌≡◌, ◌∙◌, sym, refl, ap, ℕ, suc, ◌+◌, ◌-◌, ◌<◌, ◌≤◌, ◌==◌, Bool, true, false, if◌then◌else◌, List, [], ◌∷◌, ◌++◌, length, map, get_or, take, arith, add-zero, zero-add, zero}
-use Rattle.std.specs.Prelude.{slice_index_or, slice_set}
-use Rattle.std.proofs.lemmas.Bool.{eq-eqb, ne_eqb}
+-- What is picked, place by place.
+use Rattle.std.proofs.Common.{◌≡◌, ◌∙◌, sym, refl, ap, ℕ, zero, suc, ◌+◌, ◌<◌, ◌≤◌, Bool, true, false, if◌then◌else◌, List, [], ◌∷◌, ◌++◌, length, map, get_or, take, arith, add-zero, zero-add}
+use Rattle.std.specs.Prelude.{slice_set}
 use Rattle.std.proofs.lemmas.List.{take_more, map_more, length-take-le}
-use Rattle.bk_graph.specs.Rebuilt.{picked, follow}
-
-follow_suc : (k : ℕ) (s : List ℕ) (p : ℕ) → follow (suc k) s p ≡ (if slice_index_or s p p == p then p else follow k s (slice_index_or s p p))
-unfolding follow
-follow_suc k s p = refl
-
-follow_next : (n i : ℕ) (s : List ℕ) (p : ℕ) → i < n → follow (n - i) s p ≡ (if slice_index_or s p p == p then p else follow (n - (i + 1)) s (slice_index_or s p p))
-follow_next n i s p l =
-    let e : n - i ≡ suc (n - (i + 1)) = omega arith in
-    ap (λ k. follow k s p) e ∙ follow_suc (n - (i + 1)) s p
-
-pub follow_on : (n i : ℕ) (s : List ℕ) (p q t : ℕ) → i < n → q ≡ slice_index_or s p p → (q ≡ p → ⊥) → follow (n - i) s p ≡ t → follow (n - (i + 1)) s q ≡ t
-follow_on n i s p q t l is apart h =
-    ap (follow (n - (i + 1)) s) is
-    ∙ sym (rw (ne_eqb (slice_index_or s p p) p (λ e. apart (is ∙ e))) at (follow_next n i s p l))
-    ∙ h
-
-pub follow_here : (n i : ℕ) (s : List ℕ) (p q t : ℕ) → i < n → q ≡ slice_index_or s p p → q ≡ p → follow (n - i) s p ≡ t → p ≡ t
-follow_here n i s p q t l is here h =
-    sym (rw (eq-eqb (slice_index_or s p p) p (sym is ∙ here)) at (follow_next n i s p l)) ∙ h
-
-pub follow_out : (n i : ℕ) (s : List ℕ) (p t : ℕ) → n ≤ i → follow (n - i) s p ≡ t → p ≡ t
-unfolding follow
-follow_out n i s p t l h =
-    let e : n - i ≡ 0 = omega arith in
-    ap (λ k. follow k s p) (sym e) ∙ h
+use Rattle.bk_graph.specs.Lists.{picked}
 
 abbrev one : {A B : Type 0} → (ℕ → Bool) → (ℕ → A → B) → ℕ → A → List B
 one test made k x = if test k then made k x ∷ [] else []

@@ -1,5 +1,8 @@
 // Clean.
-ghost use Rattle.std.specs.Prelude.{◌≡◌, OnErr};
+ghost use Rattle.std.specs.Prelude.{◌≡◌, ℕ, ◌<◌, length, IfOk, OnOk, OnErr};
+ghost use Rattle.bk_graph.specs.Cleaned.{IsSound, IsClosed, IsCleaned};
+ghost use Rattle.bk_graph.specs.Graphs.{IsGraphOf};
+ghost use Rattle.bk_graph.specs.Reads.{facts, tables_in, IsRight};
 
 use crate::graph::Graph;
 use crate::needed::Needed;
@@ -19,6 +22,7 @@ use std::alloc::Global;
 ///
 /// What stays keeps its number and its order. After a refusal the function is as before.
 pub fn clean(alloc: Global, func: &mut Func) -> Result<(), Memory>
+    ensures cleaned { OnOk result (IsCleaned func.old func.new) }
     ensures err { OnErr result (func.new ≡ func.old) }
 {
     let next = cleaned(alloc, func)?;
@@ -26,17 +30,29 @@ pub fn clean(alloc: Global, func: &mut Func) -> Result<(), Memory>
     Ok(())
 }
 
-fn cleaned(alloc: Global, func: &Func) -> Result<Func, Memory> {
+fn cleaned(alloc: Global, func: &Func) -> Result<Func, Memory>
+    ensures { IfOk result (IsCleaned func.now) }
+{
     let graph = Graph::new(alloc, func)?;
     cleaned_graph(alloc, func, &graph)
 }
 
-fn cleaned_graph(alloc: Global, func: &Func, graph: &Graph) -> Result<Func, Memory> {
+fn cleaned_graph(alloc: Global, func: &Func, graph: &Graph) -> Result<Func, Memory>
+    requires { IsGraphOf func.now.blocks graph.now }
+    ensures { IfOk result (IsCleaned func.now) }
+{
     let settled = Settled::new(alloc, graph)?;
     cleaned_rest(alloc, func, &settled)
 }
 
-fn cleaned_rest(alloc: Global, func: &Func, settled: &Settled) -> Result<Func, Memory> {
+fn cleaned_rest(alloc: Global, func: &Func, settled: &Settled) -> Result<Func, Memory>
+    requires graph { IsGraphOf func.now.blocks settled.now.graph.now }
+    requires right { IsRight settled.now }
+    requires sound { IsSound (tables_in settled.now) (facts settled.now) }
+    requires closed { IsClosed (tables_in settled.now) (facts settled.now) }
+    ensures { IfOk result (IsCleaned func.now) }
+{
     let needed = Needed::new(alloc, settled)?;
-    rebuilt(alloc, func, settled, &needed)
+    let left = rebuilt(alloc, func, settled, &needed)?;
+    Ok(left)
 }

@@ -2,6 +2,7 @@
 #![tactic(auto)]
 
 mod cleaned;
+mod copies;
 mod critical;
 mod graph;
 mod joined;
@@ -10,8 +11,12 @@ mod lists;
 mod needed;
 mod order;
 mod places;
+mod reads;
 mod rebuilt;
+mod roots;
+mod search;
 mod settled;
+mod settling;
 
 pub use bk_func::Memory;
 pub use cleaned::clean;

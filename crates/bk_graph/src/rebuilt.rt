@@ -2,11 +2,16 @@
 ghost use Rattle.std.specs.Prelude.{◌≡◌, ◌++◌, ◌∷◌, [], ◌&&◌, ◌||◌, not, if◌then◌else◌, Some, None, option_map, slice_get, slice_index_or, IfOk, OnOk};
 ghost use Rattle.bk_graph.specs.Clean.{is_phi};
 ghost use Rattle.bk_graph.specs.Nodes.{or_past};
-ghost use Rattle.bk_graph.specs.Rebuilt.{edge_stays, number_at, standing, is_reached, is_needed, behind, only, kept_preds, kept_args, kept_value, kept_values, kept_control, ended, kept_block, kept_blocks, rebuilt};
+ghost use Rattle.bk_graph.specs.Facts.{edge_stays};
+ghost use Rattle.bk_graph.specs.Known.{stays_there};
+ghost use Rattle.bk_graph.specs.Marks.{marked};
+ghost use Rattle.bk_graph.specs.Reads.{facts, tables_in};
+ghost use Rattle.bk_graph.specs.Rebuilt.{number_at, standing, behind, only, kept_preds, kept_args, kept_value, kept_values, kept_control, ended, kept_block, kept_blocks, rebuilt};
 
 use crate::graph::{Edge, or_past};
 use crate::needed::Needed;
-use crate::settled::{Settled, is_phi};
+use crate::reads::is_phi;
+use crate::settled::Settled;
 use bk_func::{Block, Func, Kind, Likely, Memory, Value, copy_sig};
 use smallvec::SmallVec;
 use std::alloc::{AllocError, Global};
@@ -18,7 +23,7 @@ pub(crate) fn rebuilt(
     settled: &Settled,
     needed: &Needed,
 ) -> Result<Func, Memory>
-    ensures { IfOk result (λ left. left ≡ rebuilt settled.now needed.now func.now) }
+    ensures { IfOk result (λ left. left ≡ rebuilt (tables_in settled.now) (facts settled.now) (marked needed.now.needed.items) func.now) }
 {
     let sig = copy_sig(alloc, &func.sig)?;
     let blocks = kept_blocks(alloc, settled, needed, &func.blocks)?;
@@ -37,7 +42,7 @@ fn kept_blocks(
     needed: &Needed,
     blocks: &[Block],
 ) -> Result<Vec<Block>, AllocError>
-    ensures { IfOk result (λ kept. kept.items ≡ kept_blocks settled.now needed.now blocks.now) }
+    ensures { IfOk result (λ kept. kept.items ≡ kept_blocks (tables_in settled.now) (facts settled.now) (marked needed.now.needed.items) blocks.now) }
 {
     let mut kept = Vec::new(alloc);
     for (place, block) in blocks.iter().enumerate() {
@@ -55,7 +60,7 @@ fn push_block(
     place: usize,
     block: &Block,
 ) -> Result<(), AllocError>
-    ensures { OnOk result (kept.new.items ≡ kept.old.items ++ (if is_reached settled.now place then kept_block settled.now needed.now place block.now ∷ [] else [])) }
+    ensures { OnOk result (kept.new.items ≡ kept.old.items ++ (if (facts settled.now).reached place then kept_block (tables_in settled.now) (facts settled.now) (marked needed.now.needed.items) place block.now ∷ [] else [])) }
 {
     if !settled.is_reached(place) {
         return Ok(());
@@ -72,7 +77,7 @@ fn kept_block(
     place: usize,
     block: &Block,
 ) -> Result<Block, AllocError>
-    ensures { IfOk result (λ kept. kept ≡ kept_block settled.now needed.now place block.now) }
+    ensures { IfOk result (λ kept. kept ≡ kept_block (tables_in settled.now) (facts settled.now) (marked needed.now.needed.items) place block.now) }
 {
     let edges = settled.graph.edges_to(place);
     let first = settled.graph.offset(place);
@@ -124,11 +129,11 @@ fn kept_preds(
     edges: &[Edge],
     preds: &[u32],
 ) -> Result<Vec<u32>, AllocError>
-    ensures { IfOk result (λ kept. kept.items ≡ kept_preds settled.now edges.now preds.now) }
+    ensures { IfOk result (λ kept. kept.items ≡ kept_preds (facts settled.now) edges.now preds.now) }
 {
     let mut kept = Vec::new(alloc);
     for (place, pred) in preds.iter().enumerate() {
-        let stays = edge_stays(settled, edges, place);
+        let stays = settled.has_edge_at(edges, place);
         push_if(&mut kept, stays, *pred)?;
     }
     Ok(kept)
@@ -143,19 +148,9 @@ fn push_if(kept: &mut Vec<u32>, stays: bool, number: u32) -> Result<(), AllocErr
     Ok(())
 }
 
-/// Whether there is an edge at the place and it stays.
-fn edge_stays(settled: &Settled, edges: &[Edge], place: usize) -> bool
-    ensures { result ≡ edge_stays settled.now (slice_get edges.now place) }
-{
-    match edges.get(place) {
-        Some(edge) => settled.has_edge(*edge),
-        None => false,
-    }
-}
-
 /// The control under the number of what stands for it.
 fn kept_control(settled: &Settled, place: Option<usize>, control: Option<u32>) -> Option<u32>
-    ensures { result ≡ kept_control settled.now place control }
+    ensures { result ≡ kept_control (tables_in settled.now) (facts settled.now) place control }
 {
     match (place, control) {
         (Some(place), Some(number)) => Some(standing(settled, place, number)),
@@ -165,14 +160,14 @@ fn kept_control(settled: &Settled, place: Option<usize>, control: Option<u32>) -
 
 /// The number of what stands for the value at the place, which has this number.
 fn standing(settled: &Settled, place: usize, number: u32) -> u32
-    ensures { result ≡ standing settled.now place number }
+    ensures { result ≡ standing (tables_in settled.now) (facts settled.now) place number }
 {
     number_at(settled, settled.root(place)).unwrap_or(number)
 }
 
 /// The number of the value at this place.
 fn number_at(settled: &Settled, place: usize) -> Option<u32>
-    ensures { result ≡ number_at settled.now place }
+    ensures { result ≡ number_at (tables_in settled.now) place }
 {
     match settled.graph.nodes.get(place) {
         Some(node) => {
@@ -192,7 +187,7 @@ fn kept_values(
     values: &[Value],
     edges: &[Edge],
 ) -> Result<Vec<Value>, AllocError>
-    ensures { IfOk result (λ kept. kept.items ≡ kept_values settled.now needed.now edges.now first values.now) }
+    ensures { IfOk result (λ kept. kept.items ≡ kept_values (tables_in settled.now) (facts settled.now) (marked needed.now.needed.items) edges.now first values.now) }
 {
     let mut kept = Vec::new(alloc);
     for (index, value) in values.iter().enumerate() {
@@ -220,7 +215,7 @@ fn push_value(
     value: &Value,
     edges: &[Edge],
 ) -> Result<(), AllocError>
-    ensures { OnOk result (kept.new.items ≡ kept.old.items ++ (if is_needed needed.now place then kept_value settled.now edges.now place value.now ∷ [] else [])) }
+    ensures { OnOk result (kept.new.items ≡ kept.old.items ++ (if marked needed.now.needed.items place then kept_value (tables_in settled.now) (facts settled.now) edges.now place value.now ∷ [] else [])) }
 {
     if !needed.has(place) {
         return Ok(());
@@ -237,7 +232,7 @@ fn kept_value(
     value: &Value,
     edges: &[Edge],
 ) -> Result<Value, AllocError>
-    ensures { IfOk result (λ kept. kept ≡ kept_value settled.now edges.now place value.now) }
+    ensures { IfOk result (λ kept. kept ≡ kept_value (tables_in settled.now) (facts settled.now) edges.now place value.now) }
 {
     let places = settled.graph.args_of(place);
     let is_phi = is_phi(value.op.family);
@@ -261,7 +256,7 @@ fn kept_args(
     places: &[usize],
     args: &[u32],
 ) -> Result<SmallVec<u32, 4>, AllocError>
-    ensures { IfOk result (λ kept. kept.items ≡ kept_args settled.now is_phi edges.now places.now args.now) }
+    ensures { IfOk result (λ kept. kept.items ≡ kept_args (tables_in settled.now) (facts settled.now) is_phi edges.now places.now args.now) }
 {
     let mut kept = SmallVec::new(alloc);
     for (index, arg) in args.iter().enumerate() {
@@ -273,14 +268,14 @@ fn kept_args(
 
 /// Whether the argument at this place stays.
 fn arg_stays(settled: &Settled, is_phi: bool, edges: &[Edge], place: usize) -> bool
-    ensures { result ≡ (not is_phi || edge_stays settled.now (slice_get edges.now place)) }
+    ensures { result ≡ (not is_phi || stays_there (edge_stays (facts settled.now)) (slice_get edges.now place)) }
 {
-    !is_phi || edge_stays(settled, edges, place)
+    !is_phi || settled.has_edge_at(edges, place)
 }
 
 /// The number of what stands for the argument at this index, the value at its place having this number.
 fn kept_arg(settled: &Settled, places: &[usize], index: usize, number: u32) -> u32
-    ensures { result ≡ standing settled.now (or_past (slice_get places.now index)) number }
+    ensures { result ≡ standing (tables_in settled.now) (facts settled.now) (or_past (slice_get places.now index)) number }
 {
     let place = or_past(places.get(index).copied());
     standing(settled, place, number)

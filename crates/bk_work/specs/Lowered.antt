@@ -5,16 +5,13 @@ use Rattle.bk_ops.specs.declared.types.Target.TheVariants.{Arm, Riscv64}
 use Rattle.bk_func.specs.Construct.{first_construct}
 use Rattle.bk_func.specs.Records.{FuncRecord, PackageRecord}
 use Rattle.bk_rule.specs.declared.trees.Rule.{Rule}
+pub use Rattle.bk_graph.specs.Cleaned.{IsCleaned}
 use Rattle.bk_rewrite.specs.Passes.{Settles}
 use Rattle.bk_calls.specs.Areas.{areas_of}
 use Rattle.bk_calls.specs.Budget.{is_grown}
 use Rattle.bk_dec64.specs.Budget as halved
 use Rattle.bk_dec64.specs.Decomposed.{decomposed}
 use Rattle.bk_work.specs.Rules.{RulesRecord}
-
--- what `clean` makes of a function, of which its contract does not say yet which function it is
-abbrev pub IsCleaned : FuncRecord → FuncRecord → Type 0
-IsCleaned f g = Unit {0}
 
 -- what is dead is gone, and the target has code for each value that is left
 pub record IsCoded (t : Target) (f g : FuncRecord) : Type 0 where
