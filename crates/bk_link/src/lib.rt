@@ -1,7 +1,7 @@
 //! The executable of a package: the pieces of its functions' code laid side by side, their keys replaced by addresses.
 #![tactic(auto)]
 
-ghost use Rattle.std.specs.Prelude.{◌≡◌, ℕ, ◌<◌, ◌^◌, ◌↔◌, Ok, map, IfOk, IsErrOf};
+ghost use Rattle.std.specs.Prelude.{◌≡◌, ℕ, ◌<◌, ◌≤◌, ◌^◌, ◌↔◌, Ok, map, IfOk, IsErrOf};
 ghost use Rattle.bk_piece.specs.Filled.{area};
 ghost use Rattle.bk_piece.specs.Rising.{keys_in};
 ghost use Rattle.bk_elf.specs.File.{file_of};
@@ -46,6 +46,7 @@ pub fn link(
     requires { IsLinkable pkg.now target pieces.now (map (λ w. w.items) words.now) }
     ensures file { IfOk result (λ bytes. bytes.items ≡ file_of (gathered pkg.now target pieces.now (map (λ w. w.items) words.now))) }
     ensures loads { IfOk result (λ bytes. loaded bytes.items ≡ Ok (gathered pkg.now target pieces.now (map (λ w. w.items) words.now))) }
+    ensures within { IfOk result (λ bytes. code_size pieces.now (keys_in (area (map (λ w. w.items) words.now) 2)) ≤ 16777216) }
     ensures text { (n : ℕ) → IsErrOf result (LinkError.Text n) ↔ ((n ≡ code_size pieces.now (keys_in (area (map (λ w. w.items) words.now) 2))) × (16777216 < n) × (n < 2 ^ 64)) }
 {
     let bytes = code_size(pieces, area(words, 2));

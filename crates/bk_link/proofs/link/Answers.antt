@@ -17,6 +17,11 @@ write_elf-requires c =
     let limit = subst (λ w. code_size c.args.pieces.now (keys_in w) ≤ 16777216) c.area.ensures small in
     subst IsObject (sym c.in_ok-object.ensures) (is_object c.args.pkg.now c.args.target c.args.pieces.now _ c.requires limit)
 
+pub returns-clause-within : goal.returns-clause-within
+returns-clause-within c =
+    let small : code_size c.args.pieces.now (keys_in c.area.result.now) ≤ 16777216 = omega (arith, c.code_size-bytes.ensures, c.if-bytes-gt-CODE_LIMIT.false) in
+    subst (λ w. code_size c.args.pieces.now (keys_in w) ≤ 16777216) c.area.ensures small
+
 pub returns-then-bytes-gt-CODE_LIMIT-clause-text : goal.returns-then-bytes-gt-CODE_LIMIT-clause-text
 returns-then-bytes-gt-CODE_LIMIT-clause-text c = λ n.
     let words = map (λ (w : Vec ℕ Global). w.items) c.args.words.now in
