@@ -1,6 +1,14 @@
+pub mod Announcing
+pub mod Between
+pub mod Draws
+pub mod Ended
+pub mod Gathering
+pub mod Grow
 pub mod Linking
 pub mod Own
 pub mod Pairs
+pub mod Slots
 pub mod Sorting
+pub mod Splitting
 pub mod Steps
 pub mod Turns

@@ -2,6 +2,9 @@ pub mod Each
 pub mod Framed
 pub mod Lowered
 pub mod Package
+pub mod Placed
 pub mod Refused
+pub mod Rounds
 pub mod Rules
+pub mod Run
 pub mod Stops

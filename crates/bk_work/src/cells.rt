@@ -40,7 +40,7 @@ fn all_in(alloc: Global, area: u8, keys: &[Vec<Key>]) -> Result<Vec<u64>, AllocE
     Ok(words)
 }
 
-fn push_in(words: &mut Vec<u64>, area: u8, keys: &[Key]) -> Result<(), AllocError>
+pub(crate) fn push_in(words: &mut Vec<u64>, area: u8, keys: &[Key]) -> Result<(), AllocError>
     ensures { OnOk result (words.new.items ≡ words.old.items ++ in_area area keys.now) }
 {
     for key in keys {

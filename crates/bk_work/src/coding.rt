@@ -77,7 +77,12 @@ fn piece(
     emit(alloc, target, it, &handles)
 }
 
-fn emit(alloc: Global, target: Target, it: &Framed, handles: &[Handle]) -> Result<Piece, Memory>
+pub(crate) fn emit(
+    alloc: Global,
+    target: Target,
+    it: &Framed,
+    handles: &[Handle],
+) -> Result<Piece, Memory>
     ensures { IfOk result (IsPiece target it.now.func it.now.placed it.now.frame handles.now) }
 {
     match target {

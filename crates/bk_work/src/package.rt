@@ -1,37 +1,60 @@
-// A package from its functions, on one thread.
-ghost use Rattle.std.specs.Prelude.{◌≡◌, ℕ, [], map, IfErr, IfOk};
+// A package from its functions.
+ghost use Rattle.std.specs.Prelude.{◌≡◌, ◌≤◌, ℕ, [], map, IfErr, IfOk};
 ghost use Rattle.bk_elf.specs.File.{file_of};
 ghost use Rattle.bk_link.specs.Conditions.{IsNamed};
 ghost use Rattle.bk_link.specs.Linked.{gathered};
 ghost use Rattle.bk_work.specs.Package.{AreFramed, AreFrames, IsCompiled, IsError, IsLinkError};
 ghost use Rattle.bk_work.specs.Rules.{rules_of};
 
-use crate::coding::Code;
 use crate::framing::Framed;
 use crate::outcomes::Outcomes;
+use crate::placing::{Ends, Firsts, empty, placed};
 use crate::refusals::PackageError;
+use crate::rounds::Round;
 use crate::rules::Rules;
+use crate::run::whole_round;
+use bk_dump::claim_order;
 use bk_func::Package;
+use bk_io::Gate;
 use bk_link::{LinkError, is_linkable, link};
 use bk_ops::Target;
 use bk_piece::Piece;
 use bk_rule::Rule;
 use std::alloc::{AllocError, Global};
+use std::thread::Threads;
 
-/// The object of a package, or all of its functions that are refused, or that its code is too long.
-pub fn compile_package(
+/// The object of a package, or all of its functions that are refused, or that its code is too long. So many workers lower its
+/// functions and make their code, in two rounds; the gate is told of each claim.
+pub fn compile_package<R: Threads + Sync, G: Gate + Sync>(
+    rt: &R,
     alloc: Global,
     pkg: &Package,
     target: Target,
     extra: &[Rule],
+    workers: u32,
+    gate: &G,
 ) -> Result<Vec<u8>, PackageError>
-    requires { IsNamed pkg.now }
+    requires named { IsNamed pkg.now }
+    requires workers { (1 ≤ workers) × (workers ≤ 64) }
     ensures made { IfOk result (λ bytes. IsCompiled pkg.now target extra.now bytes.items) }
     ensures cause { IfErr result (IsError pkg.now target extra.now) }
 {
-    let framed = all_framed(alloc, pkg, target, extra)?;
-    let code = Code::new(alloc, target, &framed)?;
-    linked(alloc, pkg, target, &code.pieces, &code.words)
+    let parts = u64::from(workers) + 1;
+    let order = claim_order(alloc, pkg)?;
+    let (round, pass) = Round::first(alloc, pkg, target, extra, &order, parts)?;
+    let (items, _) = whole_round(rt, alloc, round, pass, workers, gate)?;
+    let firsts = Firsts::new(alloc, placed(empty(alloc, pkg.funcs.len())?, items)?)?;
+
+    let left = firsts.left(alloc, &order)?;
+    let (round, pass) = Round::second(alloc, pkg, target, &firsts.lowered, &left, parts)?;
+    let (items, words) = whole_round(rt, alloc, round, pass, workers, gate)?;
+    let ends = Ends::new(alloc, placed(firsts.refused(alloc)?, items)?)?;
+
+    if ends.refusals.is_empty() {
+        linked(alloc, pkg, target, &ends.pieces, &words)
+    } else {
+        Err(PackageError::Functions(ends.refusals))
+    }
 }
 
 /// The object of pieces.

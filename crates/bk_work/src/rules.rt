@@ -16,7 +16,7 @@ use std::marker::Model;
 
 /// The rules of the rewritings, made once for all functions of a package.
 #[derive(Drop)]
-pub(crate) struct Rules {
+pub struct Rules {
     /// Those that hold on every target, and behind them the extra ones.
     pub(crate) generic: Vec<Rule>,
     /// Those that take 64 bits apart, where the target's words have 32, and behind them the generic ones again.
