@@ -34,7 +34,7 @@ second_grows pkg t P Q e (done.Ready p) w h = (h.0, h.1, record { handles = h.2.
 second_grows pkg t P Q e (done.Refused cause) w h = h
 
 pub done_grows : (pkg : PackageRecord) (t : Target) (job : Job) (P Q : Holds) (f : ℕ) (d : Done) → Within P Q → IsDone pkg t job P f d → IsDone pkg t job Q f d
-done_grows pkg t (Lower rules) P Q f d w h = h
+done_grows pkg t (Lower extra) P Q f d w h = h
 done_grows pkg t (Emit places lowered) P Q f d w h = (h.0, h.1, second_grows pkg t P Q h.0 d w h.2)
 
 pub item_grows : (pkg : PackageRecord) (t : Target) (job : Job) (order : List ℕ) (P Q : Holds) (i : Item) → Within P Q → IsItem pkg t job order P i → IsItem pkg t job order Q i

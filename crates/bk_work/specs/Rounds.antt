@@ -24,7 +24,7 @@ use Rattle.bk_work.specs.Framed.{FramedRecord, IsFramed, IsTooDeep}
 use Rattle.bk_work.specs.Lowered.{IsLowered}
 use Rattle.bk_work.specs.Package.{IsPiece, in_area}
 use Rattle.bk_work.specs.Refused.{IsRefused, IsUnframed}
-use Rattle.bk_work.specs.Rules.{RulesRecord}
+use Rattle.bk_work.specs.Rules.{RulesRecord, rules_of}
 
 abbrev pub Keys : Type 0
 Keys = Vec Key Global
@@ -85,7 +85,7 @@ IsAt places lowered f e = (j : ℕ) × (slice_get places j ≡ Some f) × (slice
 
 -- what is done to the function at a place of the package
 abbrev pub IsDone : PackageRecord → Target → Job → Holds → ℕ → Done → Type 0
-IsDone pkg t (Lower rules) P f d = (g : FuncRecord) × (slice_get pkg.funcs f ≡ Some g) × IsFirst pkg t rules g d
+IsDone pkg t (Lower extra) P f d = (g : FuncRecord) × (slice_get pkg.funcs f ≡ Some g) × IsFirst pkg t (rules_of t extra.now) g d
 IsDone pkg t (Emit places lowered) P f d = (e : Entry) × IsAt places.items lowered.now f e × IsSecond pkg t P e d
 
 -- an item: its claim is below the count, and its function is that of the claim
@@ -118,7 +118,7 @@ announced_by lowered = area_keys 0 lowered ∷ area_keys 1 lowered ∷ area_keys
 
 -- the functions whose keys a round announces: none where it lowers
 abbrev pub entries_in : Job → List Entry
-entries_in (Lower rules) = []
+entries_in (Lower extra) = []
 entries_in (Emit places lowered) = lowered.now
 
 abbrev pub announced_for : Job → List (List ℕ)
@@ -130,13 +130,18 @@ IsAnnounced announced k = Contains (keys_of announced k.area) k.key
 abbrev pub AreKeys : List Entry → Type 0
 AreKeys lowered = All (λ (e : Entry). All fixup.IsKey e.1.items) lowered
 
+-- the rules by which a worker lowers; to make code it needs none
+abbrev pub AreRules : Target → Job → RulesRecord → Type 0
+AreRules t (Lower extra) rules = rules ≡ rules_of t extra.now
+AreRules t (Emit places lowered) rules = Unit {0}
+
 -- the job is to lower by these rules, or to make the code of these functions at these places
-abbrev pub IsLower : Job → RulesRecord → Type 0
-IsLower (Lower rules) rs = rules ≡ rs
-IsLower (Emit places lowered) rs = ⊥
+abbrev pub IsLower : Target → Job → RulesRecord → Type 0
+IsLower t (Lower extra) rules = rules ≡ rules_of t extra.now
+IsLower t (Emit places lowered) rules = ⊥
 
 abbrev pub IsEmit : Job → List ℕ → List Entry → Type 0
-IsEmit (Lower rules) ps es = ⊥
+IsEmit (Lower extra) ps es = ⊥
 IsEmit (Emit places lowered) ps es = (places.items ≡ ps) × (lowered.now ≡ es)
 
 -- the functions at these places are lowered, in package order, by some rules

@@ -12,7 +12,6 @@ ghost use Rattle.bk_work.specs.Run.{in_words, times_in};
 
 use crate::cells::push_in;
 use crate::rounds::{Job, Round};
-use crate::rules::Rules;
 use bk_func::{Func, Memory, Package};
 use bk_ops::Target;
 use bk_piece::Key;
@@ -34,14 +33,13 @@ impl<'a> Round<'a> {
         requires order { IsClaimOrder pkg.now.funcs order.now }
         requires parts { 1 ≤ parts }
         ensures package { IfOk result (λ r. (r.0.pkg.now ≡ pkg.now) × (r.0.target ≡ target)) }
-        ensures job { IfOk result (λ r. IsLower r.0.job (rules_of target extra.now) × (r.0.order.now ≡ order.now)) }
+        ensures job { IfOk result (λ r. IsLower target r.0.job (rules_of target extra.now) × (r.0.order.now ≡ order.now)) }
         ensures parts { IfOk result (λ r. parts_in r.0.share ≡ parts) }
         ensures pass { IfOk result (λ r. IsPassOf r.0.share r.1 × (view r.1 ≡ sight parts [] [])) }
     {
-        let rules = Rules::new(alloc, target, extra)?;
         let none = [Vec::new(alloc), Vec::new(alloc), Vec::new(alloc)];
         let (share, pass) = Share::new(alloc, order.len() as u64, none, parts)?;
-        let job = Job::Lower(rules);
+        let job = Job::Lower(extra);
         Ok((
             Round {
                 share,

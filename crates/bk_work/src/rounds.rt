@@ -3,17 +3,17 @@ ghost use Rattle.std.specs.Prelude.{◌≡◌, length};
 ghost use Rattle.bk_share.specs.Passes.{announced_in, count_in};
 ghost use Rattle.bk_work.specs.Rounds.{AreKeys, announced_for, entries_in};
 
-use crate::rules::Rules;
 use bk_func::{Func, Package};
 use bk_ops::Target;
 use bk_piece::Key;
+use bk_rule::Rule;
 use bk_share::Share;
 
 /// What is done to each function.
 #[derive(Drop)]
 pub enum Job<'a> {
-    /// It is lowered by these rules.
-    Lower(Rules),
+    /// It is lowered. These are the extra rules.
+    Lower(&'a [Rule]),
     /// Its code is made. These are the places of the functions in the package in rising order, and the functions lowered.
     Emit(Vec<u32>, &'a [(Func, Vec<Key>)]),
 }

@@ -40,6 +40,14 @@ impl Model for Rules {
 }
 
 impl Rules {
+    pub(crate) fn none(alloc: Global) -> Rules {
+        Rules {
+            generic: Vec::new(alloc),
+            halves: Vec::new(alloc),
+            machine: Vec::new(alloc),
+        }
+    }
+
     pub(crate) fn new(alloc: Global, target: Target, extra: &[Rule]) -> Result<Rules, Memory>
         ensures { IfOk result (λ rules. rules ≡ rules_of target extra.now) }
     {

@@ -5,7 +5,7 @@ ghost use Rattle.bk_core.specs.Rule.{keys_of};
 ghost use Rattle.bk_func.specs.Records.{FuncRecord};
 ghost use Rattle.bk_share.specs.Passes.{IsPassOf, announced_in, view};
 ghost use Rattle.bk_work.specs.Each.{Each};
-ghost use Rattle.bk_work.specs.Rounds.{IsAnnounced, IsAt, IsListed, IsDone, IsFirst, IsHandle, IsItem, IsReady, IsSecond, KnowsOn, Worked};
+ghost use Rattle.bk_work.specs.Rounds.{AreRules, IsAnnounced, IsAt, IsListed, IsDone, IsFirst, IsHandle, IsItem, IsReady, IsSecond, KnowsOn, Worked};
 
 use crate::coding::emit;
 use crate::framing::{Framed, in_frame};
@@ -47,6 +47,7 @@ impl<'a> Round<'a> {
         ensures worked { IfOk result (λ part. Worked (length self.now.order.now) (view pass.old) (view pass.new) part.items.items) }
         ensures items { IfOk result (λ part. All (IsItem self.now.pkg.now self.now.target self.now.job self.now.order.now (Contains (view pass.new).known)) part.items.items) }
     {
+        let rules = self.rules(alloc)?;
         let mut items = Vec::new(alloc);
         'claims: loop {
             let Some(claim) = self.share.claim(pass) else {
@@ -54,20 +55,37 @@ impl<'a> Round<'a> {
             };
             gate.at_claim(worker, claim);
             let func = self.order[claim as usize];
-            let done = self.done(alloc, pass, func)?;
+            let done = self.done(alloc, pass, &rules, func)?;
             put(&mut items, (claim, func, done))?;
         }
     }
 
+    /// The rules by which the worker lowers.
+    fn rules(&self, alloc: Global) -> Result<Rules, Memory>
+        ensures { IfOk result (λ rules. AreRules self.now.target self.now.job rules) }
+    {
+        match &self.job {
+            Job::Lower(extra) => Rules::new(alloc, self.target, extra),
+            Job::Emit(_, _) => Ok(Rules::none(alloc)),
+        }
+    }
+
     /// Does the job on the function at a place of the package.
-    fn done(&self, alloc: Global, pass: &mut Pass, func: u32) -> Result<Done, Memory>
+    fn done(
+        &self,
+        alloc: Global,
+        pass: &mut Pass,
+        rules: &Rules,
+        func: u32,
+    ) -> Result<Done, Memory>
+        requires rules { AreRules self.now.target self.now.job rules.now }
         requires pass { IsPassOf self.now.share pass.old }
         ensures pass { IsPassOf self.now.share pass.new }
         ensures knows { KnowsOn (view pass.old) (view pass.new) }
         ensures done { IfOk result (IsDone self.now.pkg.now self.now.target self.now.job (Contains (view pass.new).known) func) }
     {
         match &self.job {
-            Job::Lower(rules) => lowered_at(alloc, self.pkg, self.target, rules, func),
+            Job::Lower(_) => lowered_at(alloc, self.pkg, self.target, rules, func),
             Job::Emit(places, lowered) => {
                 let Some(entry) = entry_of(places, lowered, func) else {
                     return Err(Memory);
