@@ -52,6 +52,7 @@ fn run(rt: &HostRuntime) -> u8 {
     let mut out = StdSink::new(rt.stdout());
     let mut err = StdSink::new(rt.stderr());
     backend(
+        rt,
         rt.alloc(),
         &words,
         &mut input,

@@ -2,11 +2,13 @@
 
 ghost use Rattle.std.specs.Prelude.{◌≤◌};
 
+mod gates;
 mod objects;
 mod texts;
 
-use bk_io::{MemSink, MemSource, Memory, Open};
+use bk_io::{Gate, MemSink, MemSource, Memory, Open};
 use bk_top::backend;
+use gates::{Held, Rising};
 use objects::ARM;
 use std::alloc::{AllocError, Global};
 use std::test::Fail;
@@ -18,7 +20,7 @@ use texts::{
 /// The words, the input, and what they leave: the status and the texts on the output and on the error stream.
 struct Row(&'static str, &'static str, u8, &'static str, &'static str);
 
-const TEXTS: [Row; 65] = [
+const TEXTS: [Row; 72] = [
     Row("check arm", "", 0, "ok 0 functions 0 values\n", ""),
     Row("check riscv64", ADD, 0, "ok 1 functions 5 values\n", ""),
     Row(
@@ -198,6 +200,37 @@ const TEXTS: [Row; 65] = [
     Row("eval mips st 10 0 9", STORE, 2, "", "words\n"),
     Row("eval arm st", STORE, 2, "", "words\n"),
     Row("rules generic", "", 2, "", "words\n"),
+    Row(
+        "load 40 arm 1",
+        "",
+        0,
+        "functions 40 values 1693 bytes 6440 sum 494379\n",
+        "",
+    ),
+    Row(
+        "load 40 arm 64",
+        "",
+        0,
+        "functions 40 values 1693 bytes 6440 sum 494379\n",
+        "",
+    ),
+    Row(
+        "load 40 riscv64 2",
+        "",
+        0,
+        "functions 40 values 1693 bytes 5248 sum 201930\n",
+        "",
+    ),
+    Row(
+        "load 40 riscv64 3",
+        "",
+        0,
+        "functions 40 values 1693 bytes 5248 sum 201930\n",
+        "",
+    ),
+    Row("load 1 arm", "", 2, "", "words\n"),
+    Row("load 0 arm 1", "", 2, "", "words\n"),
+    Row("load 1 arm 65", "", 2, "", "words\n"),
 ];
 
 /// Where reads and writes fail: the number of a read of the input and of one of the rules, and the room of the sinks.
@@ -208,6 +241,14 @@ struct Failing {
     room: usize,
     error_room: usize,
 }
+
+/// Room for the object of some functions.
+const ROOMY: Failing = Failing {
+    read: u64::MAX,
+    rules: u64::MAX,
+    room: 100_000,
+    error_room: 100,
+};
 
 const NO_FAULT: Failing = Failing {
     read: u64::MAX,
@@ -232,25 +273,31 @@ fn words_of(alloc: Global, line: &str) -> Result<Vec<String>, AllocError> {
     Ok(words)
 }
 
-fn answered(alloc: Global, line: &str, text: &[u8], faults: Failing) -> Result<Left, Memory> {
-    answered_by_rules(alloc, line, text, b"", faults)
+fn answered(
+    rt: &HostRuntime,
+    line: &str,
+    text: &[u8],
+    faults: Failing,
+) -> Result<Left, Memory> {
+    answered_by_rules(rt, line, text, b"", faults)
 }
 
 /// The same with a text of extra rules.
 fn answered_by_rules(
-    alloc: Global,
+    rt: &HostRuntime,
     line: &str,
     text: &[u8],
     rules: &[u8],
     faults: Failing,
 ) -> Result<Left, Memory> {
+    let alloc = rt.alloc();
     let words = words_of(alloc, line)?;
     let mut input = MemSource::new(text.to_vec(alloc)?, [faults.read].to_vec(alloc)?);
     let mut extra = MemSource::new(rules.to_vec(alloc)?, [faults.rules].to_vec(alloc)?);
     let mut out = MemSink::new(alloc, faults.room, Vec::new(alloc))?;
     let mut err = MemSink::new(alloc, faults.error_room, Vec::new(alloc))?;
     let status = backend(
-        alloc, &words, &mut input, &mut extra, &mut out, &mut err, &Open,
+        rt, alloc, &words, &mut input, &mut extra, &mut out, &mut err, &Open,
     );
     Ok(Left { status, out, err })
 }
@@ -258,7 +305,7 @@ fn answered_by_rules(
 #[test]
 fn texts_and_refusals(rt: HostRuntime) -> Result<(), Memory> {
     for Row(words, text, status, out, err) in &TEXTS {
-        let left = answered(rt.alloc(), words, text.as_bytes(), NO_FAULT)?;
+        let left = answered(&rt, words, text.as_bytes(), NO_FAULT)?;
         assert_eq!(rt; left.status, *status, "{words}");
         assert_eq!(rt; left.out.bytes(), out.as_bytes(), "{words}");
         assert_eq!(rt; left.err.bytes(), err.as_bytes(), "{words}");
@@ -307,7 +354,7 @@ fn code(rt: HostRuntime) -> Result<(), Memory> {
     let alloc = rt.alloc();
     let codes: [(&str, &[u32]); 2] = [(ADD, &ADD_CODE), (ADD_AND_TWICE, &TWICE_CODE)];
     for (text, code) in codes {
-        let left = answered(alloc, "compile riscv64 1", text.as_bytes(), NO_FAULT)?;
+        let left = answered(&rt, "compile riscv64 1", text.as_bytes(), NO_FAULT)?;
         let bytes = bytes_of(alloc, code)?;
         assert_eq!(rt; left.status, 0);
         assert!(rt;
@@ -319,7 +366,7 @@ fn code(rt: HostRuntime) -> Result<(), Memory> {
         );
     }
     for (text, len) in [(ADD, 936), ("", 832)] {
-        let left = answered(alloc, "compile riscv64 64", text.as_bytes(), NO_FAULT)?;
+        let left = answered(&rt, "compile riscv64 64", text.as_bytes(), NO_FAULT)?;
         assert_eq!(rt; left.status, 0);
         assert_eq!(rt; left.out.bytes().len(), len);
     }
@@ -369,17 +416,16 @@ const ON_RISCV64: [Compiled; 4] = [
 
 #[test]
 fn compiled_runs(rt: HostRuntime) -> Result<(), Memory> {
-    let alloc = rt.alloc();
     for Compiled(text, words, out) in &ON_BOTH {
         for command in ["compile riscv64 1", "compile arm 1"] {
-            let object = answered(alloc, command, text.as_bytes(), NO_FAULT)?;
-            let left = answered(alloc, words, object.out.bytes(), NO_FAULT)?;
+            let object = answered(&rt, command, text.as_bytes(), NO_FAULT)?;
+            let left = answered(&rt, words, object.out.bytes(), NO_FAULT)?;
             assert_eq!(rt; left.out.bytes(), out.as_bytes(), "{command}: {words}");
         }
     }
     for Compiled(text, words, out) in &ON_RISCV64 {
-        let object = answered(alloc, "compile riscv64 1", text.as_bytes(), NO_FAULT)?;
-        let left = answered(alloc, words, object.out.bytes(), NO_FAULT)?;
+        let object = answered(&rt, "compile riscv64 1", text.as_bytes(), NO_FAULT)?;
+        let left = answered(&rt, words, object.out.bytes(), NO_FAULT)?;
         assert_eq!(rt; left.status, 0, "{words}");
         assert_eq!(rt; left.out.bytes(), out.as_bytes(), "{words}");
     }
@@ -389,14 +435,13 @@ fn compiled_runs(rt: HostRuntime) -> Result<(), Memory> {
 /// A quotient by 0 is what the machine's instruction gives.
 #[test]
 fn quotients_by_zero(rt: HostRuntime) -> Result<(), Memory> {
-    let alloc = rt.alloc();
     let answers = [
         ("compile riscv64 1", "returned -1\n"),
         ("compile arm 1", "returned 0\n"),
     ];
     for (command, out) in answers {
-        let object = answered(alloc, command, QUOTIENT.as_bytes(), NO_FAULT)?;
-        let left = answered(alloc, "run d 100 7 0", object.out.bytes(), NO_FAULT)?;
+        let object = answered(&rt, command, QUOTIENT.as_bytes(), NO_FAULT)?;
+        let left = answered(&rt, "run d 100 7 0", object.out.bytes(), NO_FAULT)?;
         assert_eq!(rt; left.out.bytes(), out.as_bytes(), "{command}");
     }
     Ok(())
@@ -405,17 +450,16 @@ fn quotients_by_zero(rt: HostRuntime) -> Result<(), Memory> {
 /// A function that calls itself until the stack is spent, which has room for 4,096 frames of 16 bytes.
 #[test]
 fn spent_stack(rt: HostRuntime) -> Result<(), Memory> {
-    let alloc = rt.alloc();
     let out = "trapped 5 stack data 0010000000000000\n";
     let left = answered(
-        alloc,
+        &rt,
         "eval riscv64 r 1000000",
         COUNTED.as_bytes(),
         NO_FAULT,
     )?;
     assert_eq!(rt; left.out.bytes(), out.as_bytes());
-    let object = answered(alloc, "compile riscv64 1", COUNTED.as_bytes(), NO_FAULT)?;
-    let left = answered(alloc, "run r 1000000", object.out.bytes(), NO_FAULT)?;
+    let object = answered(&rt, "compile riscv64 1", COUNTED.as_bytes(), NO_FAULT)?;
+    let left = answered(&rt, "run r 1000000", object.out.bytes(), NO_FAULT)?;
     assert_eq!(rt; left.out.bytes(), out.as_bytes());
     Ok(())
 }
@@ -436,7 +480,7 @@ const RULES: [(&str, u8, &str); 4] = [
 fn extra_rules(rt: HostRuntime) -> Result<(), Memory> {
     for (rules, status, err) in RULES {
         let left = answered_by_rules(
-            rt.alloc(),
+            &rt,
             "compile riscv64 1 rules",
             LESS.as_bytes(),
             rules.as_bytes(),
@@ -455,7 +499,7 @@ fn long_rules(rt: HostRuntime) -> Result<(), Memory> {
     let words = "compile riscv64 1 rules";
     for (len, status, err) in [(65_536, 0, ""), (65_537, 7, "extra too long\n")] {
         let rules = vec![in alloc; b' '; len]?;
-        let left = answered_by_rules(alloc, words, ADD.as_bytes(), &rules, NO_FAULT)?;
+        let left = answered_by_rules(&rt, words, ADD.as_bytes(), &rules, NO_FAULT)?;
         assert_eq!(rt; left.status, status);
         assert_eq!(rt; left.err.bytes(), err.as_bytes());
     }
@@ -471,7 +515,7 @@ fn unread_rules(rt: HostRuntime) -> Result<(), Memory> {
         room: 5000,
         error_room: 100,
     };
-    let left = answered_by_rules(rt.alloc(), "compile riscv64 1 rules", b"x", b"y", faults)?;
+    let left = answered_by_rules(&rt, "compile riscv64 1 rules", b"x", b"y", faults)?;
     assert_eq!(rt; left.status, 4);
     assert_eq!(rt; left.out.bytes().len(), 0);
     assert_eq!(rt; left.err.bytes(), "read fault\n".as_bytes());
@@ -528,16 +572,16 @@ const CHANGES: [Change; 7] = [
 #[test]
 fn runs(rt: HostRuntime) -> Result<(), Memory> {
     let alloc = rt.alloc();
-    let add = answered(alloc, "compile riscv64 1", ADD.as_bytes(), NO_FAULT)?;
+    let add = answered(&rt, "compile riscv64 1", ADD.as_bytes(), NO_FAULT)?;
     for Run(words, status, out, err) in &RUNS {
-        let left = answered(alloc, words, add.out.bytes(), NO_FAULT)?;
+        let left = answered(&rt, words, add.out.bytes(), NO_FAULT)?;
         assert_eq!(rt; left.status, *status, "{words}");
         assert_eq!(rt; left.out.bytes(), out.as_bytes(), "{words}");
         assert_eq!(rt; left.err.bytes(), err.as_bytes(), "{words}");
     }
     for Change(place, others, status, out, err) in &CHANGES {
         let object = changed(alloc, add.out.bytes(), *place, others)?;
-        let left = answered(alloc, "run add 100 2 3", &object, NO_FAULT)?;
+        let left = answered(&rt, "run add 100 2 3", &object, NO_FAULT)?;
         assert_eq!(rt; left.status, *status, "{place}");
         assert_eq!(rt; left.out.bytes(), out.as_bytes(), "{place}");
         assert_eq!(rt; left.err.bytes(), err.as_bytes(), "{place}");
@@ -562,7 +606,7 @@ fn other_machine(rt: HostRuntime) -> Result<(), Memory> {
         ("run h0 3 67108864 49 4095 4294967296 255", 10, ""),
     ];
     for (words, status, out) in ends {
-        let left = answered(rt.alloc(), words, &object, NO_FAULT)?;
+        let left = answered(&rt, words, &object, NO_FAULT)?;
         assert_eq!(rt; left.status, status, "{words}");
         assert_eq!(rt; left.out.bytes(), out.as_bytes(), "{words}");
     }
@@ -571,7 +615,7 @@ fn other_machine(rt: HostRuntime) -> Result<(), Memory> {
 
 #[test]
 fn generated(rt: HostRuntime) -> Result<(), Memory> {
-    let left = answered(rt.alloc(), "gen 1", b"", NO_FAULT)?;
+    let left = answered(&rt, "gen 1", b"", NO_FAULT)?;
     let first =
         "f0 func(a int64, b int64) int64\nb1:\n  v1 = InitMem <mem>\n  v2 = Arg <int64> {a}\n  v3 = Arg <int64> {b}\n  v4 = Const64 <int64> [10859325028683]\n  v5 = And64 <int64> v2 v2\n";
     assert_eq!(rt; left.status, 0);
@@ -592,7 +636,7 @@ fn rules(rt: HostRuntime) -> Result<(), Memory> {
         room: 100_000,
         error_room: 100,
     };
-    let left = answered(rt.alloc(), "rules", b"", faults)?;
+    let left = answered(&rt, "rules", b"", faults)?;
     let text = str::from_utf8(left.out.bytes()).unwrap_or("");
     assert_eq!(rt; left.status, 0);
     let lists = [
@@ -612,7 +656,7 @@ fn rules(rt: HostRuntime) -> Result<(), Memory> {
 fn prefixes(rt: HostRuntime) -> Result<(), Memory> {
     let text = LOOP.as_bytes();
     for len in 0..text.len() {
-        let left = answered(rt.alloc(), "check riscv64", &text[..len], NO_FAULT)?;
+        let left = answered(&rt, "check riscv64", &text[..len], NO_FAULT)?;
         assert!(rt; left.status == 0 || left.status == 3, "{len}");
     }
     Ok(())
@@ -646,10 +690,53 @@ fn faults(rt: HostRuntime) -> Result<(), Memory> {
             room,
             error_room,
         };
-        let left = answered(rt.alloc(), words, ADD.as_bytes(), faults)?;
+        let left = answered(&rt, words, ADD.as_bytes(), faults)?;
         assert_eq!(rt; left.status, status, "{words}");
         assert_eq!(rt; left.out.bytes().len(), out, "{words}");
         assert_eq!(rt; left.err.bytes(), err.as_bytes(), "{words}");
     }
+    Ok(())
+}
+
+/// The object of a package of so many functions by so many workers, past a gate.
+fn gated<G: Gate + Sync>(
+    rt: &HostRuntime,
+    functions: &str,
+    workers: &str,
+    gate: &G,
+) -> Result<MemSink, Memory> {
+    let alloc = rt.alloc();
+    let text = answered(rt, functions, b"", ROOMY)?;
+    let words = words_of(alloc, workers)?;
+    let mut input = MemSource::new(text.out.bytes().to_vec(alloc)?, Vec::new(alloc));
+    let mut extra = MemSource::new(Vec::new(alloc), Vec::new(alloc));
+    let mut out = MemSink::new(alloc, ROOMY.room, Vec::new(alloc))?;
+    let mut err = MemSink::new(alloc, ROOMY.error_room, Vec::new(alloc))?;
+    backend(
+        rt, alloc, &words, &mut input, &mut extra, &mut out, &mut err, gate,
+    );
+    Ok(out)
+}
+
+#[test]
+fn two_workers_are_in_each_round_at_once(rt: HostRuntime) -> Result<(), Memory> {
+    let gate = Held::new();
+    let two = gated(&rt, "gen 4", "compile riscv64 2", &gate)?;
+    assert!(rt; !gate.failed());
+    for number in 0..4 {
+        assert_eq!(rt; gate.times(number), 2);
+    }
+    let one = gated(&rt, "gen 4", "compile riscv64 1", &Open)?;
+    assert!(rt; !one.bytes().is_empty());
+    assert!(rt; one.bytes() == two.bytes());
+    Ok(())
+}
+
+#[test]
+fn one_worker_claims_in_rising_order(rt: HostRuntime) -> Result<(), Memory> {
+    let gate = Rising::new(5);
+    gated(&rt, "gen 5", "compile arm 1", &gate)?;
+    assert!(rt; !gate.failed());
+    assert_eq!(rt; gate.claims(), 10);
     Ok(())
 }

@@ -1,5 +1,5 @@
 -- What the program answers to its words and its input.
-use Rattle.std.specs.Prelude.{◌≡◌, ◌≢◌, ℕ, ◌<◌, ◌≤◌, ◌⊎◌, true, List, [], ◌∷◌, ◌++◌, length, take, map, sum_by, slice_get, Option, None, Some, IfSome, unwrap_or, Ok, Err, codes, string_bytes}
+use Rattle.std.specs.Prelude.{◌≡◌, ◌≢◌, ℕ, ◌<◌, ◌≤◌, ◌%◌, ◌^◌, ◌⊎◌, true, List, [], ◌∷◌, ◌++◌, length, take, map, sum_by, slice_get, Option, None, Some, IfSome, unwrap_or, Ok, Err, codes, string_bytes}
 use Rattle.bk_ops.specs.declared.types.Target.{Target}
 use Rattle.std.specs.Fmt.{decimal}
 use Rattle.std.specs.Io.KnownBytes.{Appends}
@@ -20,7 +20,7 @@ use Rattle.bk_dump.specs.Generate.{generated}
 use Rattle.bk_top.specs.declared.refusal.Refusal.{Refusal}
 use Rattle.bk_top.specs.declared.refusal.Refusal.TheVariants.{Words, ReadFault, TooLong, ExtraTooLong, RuleSyntax, RuleOp, Syntax, Limit, Duplicate, Undefined, FormFault, Functions, Text, Object, Function, Arguments, WriteFault, Memory}
 use Rattle.bk_top.specs.declared.refusal.RefusedFunc.{RefusedFunc}
-use Rattle.bk_top.specs.Commands.{CommandRecord, compile_row, check_row, generate_row, run_row, evaluate_row, rules_row, Asks}
+use Rattle.bk_top.specs.Commands.{CommandRecord, compile_row, check_row, generate_row, run_row, evaluate_row, rules_row, load_row, TrialRecord, Asks}
 use Rattle.bk_top.specs.Refusals.{status, line}
 use Rattle.bk_top.specs.Running.{Runs, LacksFunction, Misfits}
 use Rattle.bk_top.specs.Package.{ReadsAs, text_limit}
@@ -58,6 +58,13 @@ cause_in p r = (func_name p r.func, r.cause)
 abbrev pub AreNamed : PackageRecord → Target → List Rule → List RefusedFunc → Type 0
 AreNamed p target rules refused = (rs : List FuncRefusal) × AreRefused p target rules rs × (map named_cause refused ≡ map (cause_in p) rs)
 
+-- what is told of a package that has no object
+abbrev pub IsObjectRefusal : PackageRecord → Target → List Rule → Refusal → Type 0
+IsObjectRefusal p target rules (Functions refused) = AreNamed p target rules refused.items
+IsObjectRefusal p target rules (Text n) = IsTooLong p target rules n
+IsObjectRefusal p target rules Memory = Unit {0}
+IsObjectRefusal p target rules refusal = ⊥
+
 -- what is told of a package whose functions have no frames
 abbrev pub IsFrameRefusal : PackageRecord → Target → Refusal → Type 0
 IsFrameRefusal p target (Functions refused) = AreNamed p target [] refused.items
@@ -80,6 +87,16 @@ counts p = codes "ok " ++ (decimal (length p.funcs) ++ (codes " functions " ++ (
 abbrev pub Checks : Target → List ℕ → List ℕ → Type 0
 Checks target text bytes = (p : PackageRecord) × ReadsAs text target (Ok p) × (bytes ≡ counts p)
 
+-- the line of a package's counts, of its object's length, and of the sum of the object's bytes modulo 2^32
+abbrev pub measures : PackageRecord → List ℕ → List ℕ
+measures p object =
+    codes "functions " ++ (decimal (length p.funcs) ++ (codes " values " ++ (decimal (sum_by (λ f. f.given) p.funcs)
+    ++ (codes " bytes " ++ (decimal (length object) ++ (codes " sum " ++ (decimal (sum_by (λ b. b) object % 2 ^ 32) ++ codes "\n")))))))
+
+-- what `load` makes: measures of the object of the generated package
+abbrev pub Measures : TrialRecord → List ℕ → Type 0
+Measures t bytes = (object : List ℕ) × IsCompiled (generated t.count) t.target [] object × (bytes ≡ measures (generated t.count) object)
+
 -- the bytes of an input, where they are known
 abbrev pub IsInput : Option (List ℕ) → List ℕ → Type 0
 IsInput input text = IfSome input (λ bytes. text ≡ bytes)
@@ -98,6 +115,7 @@ Makes (generate_row n) input extra bytes = bytes ≡ text_of (generated n)
 Makes (run_row call) input extra bytes = (object : List ℕ) × IsInput input object × Runs call object bytes
 Makes (evaluate_row target call) input extra bytes = (text : List ℕ) × IsInput input text × Evaluates target call text bytes
 Makes rules_row input extra bytes = bytes ≡ listing
+Makes (load_row t) input extra bytes = Measures t bytes
 
 -- a command that reads the extra rules
 abbrev pub ReadsExtra : CommandRecord → Type 0
@@ -112,6 +130,7 @@ ReadsInput (generate_row n) = ⊥
 ReadsInput (run_row call) = Unit {0}
 ReadsInput (evaluate_row target call) = Unit {0}
 ReadsInput rules_row = ⊥
+ReadsInput (load_row t) = ⊥
 
 -- the most bytes of an object
 abbrev pub object_limit : ℕ
@@ -129,6 +148,7 @@ input_limit (generate_row n) = text_limit
 input_limit (run_row call) = object_limit
 input_limit (evaluate_row target call) = text_limit
 input_limit rules_row = text_limit
+input_limit (load_row t) = text_limit
 
 -- the reader of packages refuses the text of a command
 abbrev pub IsUnread : CommandRecord → List ℕ → DumpError → Type 0
@@ -138,8 +158,9 @@ IsUnread (generate_row n) text e = ⊥
 IsUnread (run_row call) text e = ⊥
 IsUnread (evaluate_row target call) text e = ReadsAs text target (Err e)
 IsUnread rules_row text e = ⊥
+IsUnread (load_row t) text e = ⊥
 
--- the command makes code, and functions of the package that the text reads as are refused
+-- the command makes code, and functions of its package are refused
 abbrev pub HasRefused : CommandRecord → List Rule → List ℕ → List RefusedFunc → Type 0
 HasRefused (compile_row r) rules text refused = Refuses r.target rules text refused
 HasRefused (check_row target) rules text refused = ⊥
@@ -147,6 +168,7 @@ HasRefused (generate_row n) rules text refused = ⊥
 HasRefused (run_row call) rules text refused = ⊥
 HasRefused (evaluate_row target call) rules text refused = Refuses target [] text refused
 HasRefused rules_row rules text refused = ⊥
+HasRefused (load_row t) rules text refused = AreNamed (generated t.count) t.target [] refused
 
 -- the command makes code that is too long
 abbrev pub HasLong : CommandRecord → List Rule → List ℕ → ℕ → Type 0
@@ -156,6 +178,7 @@ HasLong (generate_row n) rules text k = ⊥
 HasLong (run_row call) rules text n = ⊥
 HasLong (evaluate_row target call) rules text n = ⊥
 HasLong rules_row rules text n = ⊥
+HasLong (load_row t) rules text n = IsTooLong (generated t.count) t.target [] n
 
 -- the command runs a function of an object, and its input is none
 abbrev pub IsNoObject : CommandRecord → List ℕ → LoadError → Type 0
@@ -165,6 +188,7 @@ IsNoObject (generate_row n) text e = ⊥
 IsNoObject (run_row call) text e = loaded text ≡ Err e
 IsNoObject (evaluate_row target call) text e = ⊥
 IsNoObject rules_row text e = ⊥
+IsNoObject (load_row t) text e = ⊥
 
 -- the command calls a function that is not there
 abbrev pub HasNone : CommandRecord → List ℕ → Type 0
@@ -174,6 +198,7 @@ HasNone (generate_row n) text = ⊥
 HasNone (run_row call) text = LacksFunction call text
 HasNone (evaluate_row target call) text = LacksNamed target call text
 HasNone rules_row text = ⊥
+HasNone (load_row t) text = ⊥
 
 -- the command calls a function by words that do not fit it
 abbrev pub HasOthers : CommandRecord → List ℕ → Type 0
@@ -183,6 +208,7 @@ HasOthers (generate_row n) text = ⊥
 HasOthers (run_row call) text = Misfits call text
 HasOthers (evaluate_row target call) text = MisfitsNamed target call text
 HasOthers rules_row text = ⊥
+HasOthers (load_row t) text = ⊥
 
 -- a refusal of a command's text, with extra rules
 abbrev pub Spoils : CommandRecord → List Rule → List ℕ → Refusal → Type 0
@@ -213,6 +239,17 @@ WithRules (generate_row n) extra P = P []
 WithRules (run_row call) extra P = P []
 WithRules (evaluate_row target call) extra P = P []
 WithRules rules_row extra P = P []
+WithRules (load_row t) extra P = P []
+
+-- what holds of the text of a command: of that which it reads, or of none
+abbrev pub WithInput : CommandRecord → Option (List ℕ) → (List ℕ → Type 0) → Type 0
+WithInput (compile_row r) input P = IfSome input P
+WithInput (check_row target) input P = IfSome input P
+WithInput (generate_row n) input P = ⊥
+WithInput (run_row call) input P = IfSome input P
+WithInput (evaluate_row target call) input P = IfSome input P
+WithInput rules_row input P = ⊥
+WithInput (load_row t) input P = P []
 
 -- A refusal of a command by its input and its extra rules: faults are counts that rose, want of memory is free, and all
 -- else is in what they hold. One of the input comes only where the extra rules are read.
@@ -225,7 +262,7 @@ Stems command i x ExtraTooLong = ReadsExtra command × IfSome x.left (λ text. r
 Stems command i x (RuleSyntax n) = ReadsExtra command × IfSome x.left (λ text. rules_of true text ≡ Err (rule.RuleSyntax n))
 Stems command i x (RuleOp n) = ReadsExtra command × IfSome x.left (λ text. rules_of true text ≡ Err (rule.RuleOp n))
 Stems command i x Memory = Unit {0}
-Stems command i x refusal = ReadsInput command × WithRules command x.left (λ rules. IfSome i.left (λ text. Spoils command rules text refusal))
+Stems command i x refusal = WithRules command x.left (λ rules. WithInput command i.left (λ text. Spoils command rules text refusal))
 
 -- why a refusal comes: no command has these words, or the refusal is one of theirs
 abbrev pub Causes : List (List ℕ) → Stream → Stream → Refusal → Type 0

@@ -6,7 +6,8 @@ use Rattle.bk_ops.specs.declared.types.Target.TheVariants.{Arm, Riscv64}
 use Rattle.bk_top.specs.declared.command.call.Call.{Call}
 use Rattle.bk_top.specs.declared.command.Command.{Command}
 use Rattle.bk_top.specs.declared.command.Request.{Request}
-use Rattle.bk_top.specs.declared.command.Command.TheVariants.{Compile, Check, Generate, Run, Evaluate, Rules}
+use Rattle.bk_top.specs.declared.command.Trial.{Trial}
+use Rattle.bk_top.specs.declared.command.Command.TheVariants.{Compile, Check, Generate, Run, Evaluate, Rules, Load}
 
 -- a function by its name, a bound on its run, and the words of its arguments
 pub record CallRecord : Type 0 where
@@ -20,6 +21,12 @@ pub record CompileRecord : Type 0 where
   pub workers : ℕ
   pub rules : List (List ℕ)
 
+-- a generated package of so many functions that is compiled, with how many threads
+pub record TrialRecord : Type 0 where
+  pub count : ℕ
+  pub target : Target
+  pub workers : ℕ
+
 -- what words may ask for
 pub data CommandRecord : Type 0 where
   compile_row : CompileRecord → CommandRecord
@@ -28,12 +35,16 @@ pub data CommandRecord : Type 0 where
   run_row : CallRecord → CommandRecord
   evaluate_row : Target → CallRecord → CommandRecord
   rules_row : CommandRecord
+  load_row : TrialRecord → CommandRecord
 
 abbrev pub seen_call : Call → CallRecord
 seen_call c = record { name = string_bytes c.name.now; bound = c.bound; args = map string_bytes c.args.now }
 
 abbrev pub seen_request : Request → CompileRecord
 seen_request r = record { target = r.target; workers = r.workers; rules = map string_bytes r.rules.now }
+
+abbrev pub seen_trial : Trial → TrialRecord
+seen_trial t = record { count = t.count; target = t.target; workers = t.workers }
 
 abbrev pub seen : Command → CommandRecord
 seen (Compile request) = compile_row (seen_request request)
@@ -42,6 +53,7 @@ seen (Generate n) = generate_row n
 seen (Run call) = run_row (seen_call call)
 seen (Evaluate target call) = evaluate_row target (seen_call call)
 seen Rules = rules_row
+seen (Load trial) = load_row (seen_trial trial)
 
 abbrev pub target_word : Target → List ℕ
 target_word Arm = codes "arm"
@@ -58,6 +70,7 @@ words_of (generate_row n) = codes "gen" ∷ decimal n ∷ []
 words_of (run_row call) = codes "run" ∷ call_words call
 words_of (evaluate_row target call) = codes "eval" ∷ target_word target ∷ call_words call
 words_of rules_row = codes "rules" ∷ []
+words_of (load_row t) = codes "load" ∷ decimal t.count ∷ target_word t.target ∷ decimal t.workers ∷ []
 
 -- digits that have no sign and no leading zero
 abbrev pub IsCanonical : List ℕ → Type 0
@@ -76,14 +89,22 @@ SpellsArgument word = (z : ℤ) × IsArgument z × (word ≡ signed_decimal z)
 abbrev pub IsCall : CallRecord → Type 0
 IsCall c = (c.bound < 2 ^ 64) × All SpellsArgument c.args
 
+-- how many functions a generated package may have, and how many threads may be used
+abbrev pub IsCount : ℕ → Type 0
+IsCount n = (1 ≤ n) × (n ≤ 4096)
+
+abbrev pub AreWorkers : ℕ → Type 0
+AreWorkers n = (1 ≤ n) × (n ≤ 64)
+
 -- the numbers of a command are in their ranges
 abbrev pub IsInRange : CommandRecord → Type 0
-IsInRange (compile_row r) = (1 ≤ r.workers) × (r.workers ≤ 64) × (length r.rules ≤ 1)
+IsInRange (compile_row r) = AreWorkers r.workers × (length r.rules ≤ 1)
 IsInRange (check_row target) = Unit {0}
-IsInRange (generate_row n) = (1 ≤ n) × (n ≤ 4096)
+IsInRange (generate_row n) = IsCount n
 IsInRange (run_row call) = IsCall call
 IsInRange (evaluate_row target call) = IsCall call
 IsInRange rules_row = Unit {0}
+IsInRange (load_row t) = IsCount t.count × AreWorkers t.workers
 
 -- the words ask for the command
 abbrev pub Asks : List (List ℕ) → CommandRecord → Type 0

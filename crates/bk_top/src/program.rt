@@ -11,23 +11,26 @@ use crate::refusal::Refusal;
 use crate::tell::tell;
 use bk_io::{Gate, Sink, Source, write_all};
 use std::alloc::Global;
+use std::thread::Threads;
 
 /// Runs the command that the words name: the bytes that it makes go to `out`, a refusal's line to `err`.
 ///
-/// The rows of words are `compile TARGET WORKERS` and `compile TARGET WORKERS RULES`, so far for riscv64 and on one thread,
-/// `check TARGET`, `gen N`, `run NAME BOUND ARG..`, `eval TARGET NAME BOUND ARG..` and `rules`. `extra` holds the text of the
-/// extra rules, and is read where the words have RULES; `gate` is not asked by these rows. The status is 0, or that of the
-/// refusal: 1 where functions are refused, 2 where the words are in no row, 3 where the text is refused, 4 after a failed
+/// The rows of words are `compile TARGET WORKERS` and `compile TARGET WORKERS RULES`, `check TARGET`, `gen N`, `run NAME BOUND
+/// ARG..`, `eval TARGET NAME BOUND ARG..`, `rules` and `load N TARGET WORKERS`. `extra` holds the text of the extra rules, and is
+/// read where the words have RULES; `rt` makes the threads of WORKERS, and `gate` is told of each of their claims. The status
+/// is 0, or that of the refusal: 1 where functions are refused, 2 where the words are in no row, 3 where the text is refused, 4 after a failed
 /// read, 5 after a failed write, 6 without memory, 7 where the extra rules are refused, 8 where the input is no object, 9
 /// where the code is too long, 10 where there is no such function or the arguments do not fit.
-pub fn backend<S: Source, X: Source, K: Sink, E: Sink, G: Gate>(
+#[allow(clippy::too_many_arguments)]
+pub fn backend<R: Threads + Sync, S: Source, X: Source, K: Sink, E: Sink, G: Gate + Sync>(
+    rt: &R,
     alloc: Global,
     words: &[String],
     input: &mut S,
     extra: &mut X,
     out: &mut K,
     err: &mut E,
-    _gate: &G,
+    gate: &G,
 ) -> u8
     ensures known { result ≤ 10 }
 
@@ -51,7 +54,7 @@ pub fn backend<S: Source, X: Source, K: Sink, E: Sink, G: Gate>(
     let Some(command) = command_of(words) else {
         return tell(alloc, err, &Refusal::Words);
     };
-    match answer(alloc, command, input, extra) {
+    match answer(rt, alloc, command, input, extra, gate) {
         Err(refusal) => tell(alloc, err, &refusal),
         Ok(bytes) => match write_all(out, &bytes) {
             Ok(()) => 0,

@@ -26,6 +26,8 @@ pub enum Command<'a> {
     Evaluate(Target, Call<'a>),
     /// `rules`: the lists of rewrite rules.
     Rules,
+    /// `load N TARGET WORKERS`: measures of the object of a package that is made by a rule.
+    Load(Trial),
 }
 
 /// What is to be compiled, and how.
@@ -36,6 +38,16 @@ pub struct Request<'a> {
     pub workers: u64,
     /// The word of the extra rules, which may be missing.
     pub rules: &'a [String],
+}
+
+/// A package that is made by a rule and compiled.
+#[derive(Clone, Copy)]
+pub struct Trial {
+    /// The count of its functions.
+    pub count: u64,
+    pub target: Target,
+    /// The count of threads that may be used.
+    pub workers: u64,
 }
 
 /// The most functions of a generated package.
@@ -163,6 +175,20 @@ fn rules(others: &[String]) -> Option<Command<'_>>
     }
 }
 
+fn load(others: &[String]) -> Option<Command<'_>>
+    ensures found { IfSome result (λ c. Asks (codes "load" ∷ map string_bytes others.now) (seen c)) }
+    ensures none { IfNone result ((c : CommandRecord) → Asks (codes "load" ∷ map string_bytes others.now) c → ⊥) }
+{
+    match others {
+        [count, target, workers] => Some(Command::Load(Trial {
+            count: count_of(count)?,
+            target: target_of(target)?,
+            workers: workers_of(workers)?,
+        })),
+        _ => None,
+    }
+}
+
 /// The command of the words; None where they are in no row.
 pub fn command_of(words: &[String]) -> Option<Command<'_>>
     ensures found { IfSome result (λ c. Asks (map string_bytes words.now) (seen c)) }
@@ -181,6 +207,8 @@ pub fn command_of(words: &[String]) -> Option<Command<'_>>
         evaluate(others)
     } else if is_text(name, "rules") {
         rules(others)
+    } else if is_text(name, "load") {
+        load(others)
     } else {
         None
     }

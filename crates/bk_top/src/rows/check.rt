@@ -11,7 +11,7 @@ use bk_ops::Target;
 use std::alloc::{AllocError, Global};
 
 /// How many values the texts of the functions have.
-fn count_values(funcs: &[Func]) -> u128
+pub fn count_values(funcs: &[Func]) -> u128
     ensures { result ≡ sum_by (λ f. f.given) funcs.now }
 {
     let mut count = 0u128;

@@ -7,6 +7,7 @@ pub mod evaluate;
 pub mod extra;
 pub mod generate;
 pub mod input;
+pub mod load;
 pub mod outcome;
 pub mod refused;
 pub mod rules;
