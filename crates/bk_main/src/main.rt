@@ -7,6 +7,7 @@ use std::alloc::{AllocError, Global};
 use std::env;
 use std::io::ErrorKind;
 use std::process::ExitCode;
+use std::thread::Threads;
 
 /// The status where a word is no UTF-8.
 const NO_WORDS: u8 = 2;
@@ -39,8 +40,8 @@ fn rules(alloc: Global, words: &[String]) -> Result<MemSource, AllocError> {
     Ok(MemSource::new(bytes, Vec::new(alloc)))
 }
 
-/// Runs the command of the words over the standard streams, and answers its status.
-fn run(rt: &HostRuntime) -> u8 {
+/// Runs the command of the words over the standard streams, and answers its status. The runtime makes the threads too.
+fn run<R: Threads + Sync>(rt: &HostRuntime, threads: &R) -> u8 {
     let words = match words(rt) {
         Ok(words) => words,
         Err(status) => return status,
@@ -52,7 +53,7 @@ fn run(rt: &HostRuntime) -> u8 {
     let mut out = StdSink::new(rt.stdout());
     let mut err = StdSink::new(rt.stderr());
     backend(
-        rt,
+        threads,
         rt.alloc(),
         &words,
         &mut input,
@@ -64,5 +65,5 @@ fn run(rt: &HostRuntime) -> u8 {
 }
 
 fn main(rt: HostRuntime) -> ExitCode {
-    ExitCode::from(run(&rt))
+    ExitCode::from(run(&rt, &rt))
 }

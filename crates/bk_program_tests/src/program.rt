@@ -12,6 +12,7 @@ use gates::{Held, Rising};
 use objects::ARM;
 use std::alloc::{AllocError, Global};
 use std::test::Fail;
+use std::thread::Threads;
 use texts::{
     ADD, ADD_AND_TWICE, ADD_CODE, CONSTANT, COUNTED, DROPPED, LEQ, LESS, LOOP, MOD, NO_SUCH,
     QUOTIENT, SPIN, STORE, SWAP, TWICE, TWICE_CODE, USE, ZEROS,
@@ -273,24 +274,25 @@ fn words_of(alloc: Global, line: &str) -> Result<Vec<String>, AllocError> {
     Ok(words)
 }
 
-fn answered(
-    rt: &HostRuntime,
+fn answered<R: Threads + Sync>(
+    rt: &R,
+    alloc: Global,
     line: &str,
     text: &[u8],
     faults: Failing,
 ) -> Result<Left, Memory> {
-    answered_by_rules(rt, line, text, b"", faults)
+    answered_by_rules(rt, alloc, line, text, b"", faults)
 }
 
 /// The same with a text of extra rules.
-fn answered_by_rules(
-    rt: &HostRuntime,
+fn answered_by_rules<R: Threads + Sync>(
+    rt: &R,
+    alloc: Global,
     line: &str,
     text: &[u8],
     rules: &[u8],
     faults: Failing,
 ) -> Result<Left, Memory> {
-    let alloc = rt.alloc();
     let words = words_of(alloc, line)?;
     let mut input = MemSource::new(text.to_vec(alloc)?, [faults.read].to_vec(alloc)?);
     let mut extra = MemSource::new(rules.to_vec(alloc)?, [faults.rules].to_vec(alloc)?);
@@ -305,7 +307,7 @@ fn answered_by_rules(
 #[test]
 fn texts_and_refusals(rt: HostRuntime) -> Result<(), Memory> {
     for Row(words, text, status, out, err) in &TEXTS {
-        let left = answered(&rt, words, text.as_bytes(), NO_FAULT)?;
+        let left = answered(&rt, rt.alloc(), words, text.as_bytes(), NO_FAULT)?;
         assert_eq!(rt; left.status, *status, "{words}");
         assert_eq!(rt; left.out.bytes(), out.as_bytes(), "{words}");
         assert_eq!(rt; left.err.bytes(), err.as_bytes(), "{words}");
@@ -354,7 +356,13 @@ fn code(rt: HostRuntime) -> Result<(), Memory> {
     let alloc = rt.alloc();
     let codes: [(&str, &[u32]); 2] = [(ADD, &ADD_CODE), (ADD_AND_TWICE, &TWICE_CODE)];
     for (text, code) in codes {
-        let left = answered(&rt, "compile riscv64 1", text.as_bytes(), NO_FAULT)?;
+        let left = answered(
+            &rt,
+            rt.alloc(),
+            "compile riscv64 1",
+            text.as_bytes(),
+            NO_FAULT,
+        )?;
         let bytes = bytes_of(alloc, code)?;
         assert_eq!(rt; left.status, 0);
         assert!(rt;
@@ -366,7 +374,13 @@ fn code(rt: HostRuntime) -> Result<(), Memory> {
         );
     }
     for (text, len) in [(ADD, 936), ("", 832)] {
-        let left = answered(&rt, "compile riscv64 64", text.as_bytes(), NO_FAULT)?;
+        let left = answered(
+            &rt,
+            rt.alloc(),
+            "compile riscv64 64",
+            text.as_bytes(),
+            NO_FAULT,
+        )?;
         assert_eq!(rt; left.status, 0);
         assert_eq!(rt; left.out.bytes().len(), len);
     }
@@ -418,14 +432,20 @@ const ON_RISCV64: [Compiled; 4] = [
 fn compiled_runs(rt: HostRuntime) -> Result<(), Memory> {
     for Compiled(text, words, out) in &ON_BOTH {
         for command in ["compile riscv64 1", "compile arm 1"] {
-            let object = answered(&rt, command, text.as_bytes(), NO_FAULT)?;
-            let left = answered(&rt, words, object.out.bytes(), NO_FAULT)?;
+            let object = answered(&rt, rt.alloc(), command, text.as_bytes(), NO_FAULT)?;
+            let left = answered(&rt, rt.alloc(), words, object.out.bytes(), NO_FAULT)?;
             assert_eq!(rt; left.out.bytes(), out.as_bytes(), "{command}: {words}");
         }
     }
     for Compiled(text, words, out) in &ON_RISCV64 {
-        let object = answered(&rt, "compile riscv64 1", text.as_bytes(), NO_FAULT)?;
-        let left = answered(&rt, words, object.out.bytes(), NO_FAULT)?;
+        let object = answered(
+            &rt,
+            rt.alloc(),
+            "compile riscv64 1",
+            text.as_bytes(),
+            NO_FAULT,
+        )?;
+        let left = answered(&rt, rt.alloc(), words, object.out.bytes(), NO_FAULT)?;
         assert_eq!(rt; left.status, 0, "{words}");
         assert_eq!(rt; left.out.bytes(), out.as_bytes(), "{words}");
     }
@@ -440,8 +460,14 @@ fn quotients_by_zero(rt: HostRuntime) -> Result<(), Memory> {
         ("compile arm 1", "returned 0\n"),
     ];
     for (command, out) in answers {
-        let object = answered(&rt, command, QUOTIENT.as_bytes(), NO_FAULT)?;
-        let left = answered(&rt, "run d 100 7 0", object.out.bytes(), NO_FAULT)?;
+        let object = answered(&rt, rt.alloc(), command, QUOTIENT.as_bytes(), NO_FAULT)?;
+        let left = answered(
+            &rt,
+            rt.alloc(),
+            "run d 100 7 0",
+            object.out.bytes(),
+            NO_FAULT,
+        )?;
         assert_eq!(rt; left.out.bytes(), out.as_bytes(), "{command}");
     }
     Ok(())
@@ -453,13 +479,26 @@ fn spent_stack(rt: HostRuntime) -> Result<(), Memory> {
     let out = "trapped 5 stack data 0010000000000000\n";
     let left = answered(
         &rt,
+        rt.alloc(),
         "eval riscv64 r 1000000",
         COUNTED.as_bytes(),
         NO_FAULT,
     )?;
     assert_eq!(rt; left.out.bytes(), out.as_bytes());
-    let object = answered(&rt, "compile riscv64 1", COUNTED.as_bytes(), NO_FAULT)?;
-    let left = answered(&rt, "run r 1000000", object.out.bytes(), NO_FAULT)?;
+    let object = answered(
+        &rt,
+        rt.alloc(),
+        "compile riscv64 1",
+        COUNTED.as_bytes(),
+        NO_FAULT,
+    )?;
+    let left = answered(
+        &rt,
+        rt.alloc(),
+        "run r 1000000",
+        object.out.bytes(),
+        NO_FAULT,
+    )?;
     assert_eq!(rt; left.out.bytes(), out.as_bytes());
     Ok(())
 }
@@ -481,6 +520,7 @@ fn extra_rules(rt: HostRuntime) -> Result<(), Memory> {
     for (rules, status, err) in RULES {
         let left = answered_by_rules(
             &rt,
+            rt.alloc(),
             "compile riscv64 1 rules",
             LESS.as_bytes(),
             rules.as_bytes(),
@@ -499,7 +539,7 @@ fn long_rules(rt: HostRuntime) -> Result<(), Memory> {
     let words = "compile riscv64 1 rules";
     for (len, status, err) in [(65_536, 0, ""), (65_537, 7, "extra too long\n")] {
         let rules = vec![in alloc; b' '; len]?;
-        let left = answered_by_rules(&rt, words, ADD.as_bytes(), &rules, NO_FAULT)?;
+        let left = answered_by_rules(&rt, rt.alloc(), words, ADD.as_bytes(), &rules, NO_FAULT)?;
         assert_eq!(rt; left.status, status);
         assert_eq!(rt; left.err.bytes(), err.as_bytes());
     }
@@ -515,7 +555,14 @@ fn unread_rules(rt: HostRuntime) -> Result<(), Memory> {
         room: 5000,
         error_room: 100,
     };
-    let left = answered_by_rules(&rt, "compile riscv64 1 rules", b"x", b"y", faults)?;
+    let left = answered_by_rules(
+        &rt,
+        rt.alloc(),
+        "compile riscv64 1 rules",
+        b"x",
+        b"y",
+        faults,
+    )?;
     assert_eq!(rt; left.status, 4);
     assert_eq!(rt; left.out.bytes().len(), 0);
     assert_eq!(rt; left.err.bytes(), "read fault\n".as_bytes());
@@ -572,16 +619,22 @@ const CHANGES: [Change; 7] = [
 #[test]
 fn runs(rt: HostRuntime) -> Result<(), Memory> {
     let alloc = rt.alloc();
-    let add = answered(&rt, "compile riscv64 1", ADD.as_bytes(), NO_FAULT)?;
+    let add = answered(
+        &rt,
+        rt.alloc(),
+        "compile riscv64 1",
+        ADD.as_bytes(),
+        NO_FAULT,
+    )?;
     for Run(words, status, out, err) in &RUNS {
-        let left = answered(&rt, words, add.out.bytes(), NO_FAULT)?;
+        let left = answered(&rt, rt.alloc(), words, add.out.bytes(), NO_FAULT)?;
         assert_eq!(rt; left.status, *status, "{words}");
         assert_eq!(rt; left.out.bytes(), out.as_bytes(), "{words}");
         assert_eq!(rt; left.err.bytes(), err.as_bytes(), "{words}");
     }
     for Change(place, others, status, out, err) in &CHANGES {
         let object = changed(alloc, add.out.bytes(), *place, others)?;
-        let left = answered(&rt, "run add 100 2 3", &object, NO_FAULT)?;
+        let left = answered(&rt, rt.alloc(), "run add 100 2 3", &object, NO_FAULT)?;
         assert_eq!(rt; left.status, *status, "{place}");
         assert_eq!(rt; left.out.bytes(), out.as_bytes(), "{place}");
         assert_eq!(rt; left.err.bytes(), err.as_bytes(), "{place}");
@@ -606,7 +659,7 @@ fn other_machine(rt: HostRuntime) -> Result<(), Memory> {
         ("run h0 3 67108864 49 4095 4294967296 255", 10, ""),
     ];
     for (words, status, out) in ends {
-        let left = answered(&rt, words, &object, NO_FAULT)?;
+        let left = answered(&rt, rt.alloc(), words, &object, NO_FAULT)?;
         assert_eq!(rt; left.status, status, "{words}");
         assert_eq!(rt; left.out.bytes(), out.as_bytes(), "{words}");
     }
@@ -615,7 +668,7 @@ fn other_machine(rt: HostRuntime) -> Result<(), Memory> {
 
 #[test]
 fn generated(rt: HostRuntime) -> Result<(), Memory> {
-    let left = answered(&rt, "gen 1", b"", NO_FAULT)?;
+    let left = answered(&rt, rt.alloc(), "gen 1", b"", NO_FAULT)?;
     let first =
         "f0 func(a int64, b int64) int64\nb1:\n  v1 = InitMem <mem>\n  v2 = Arg <int64> {a}\n  v3 = Arg <int64> {b}\n  v4 = Const64 <int64> [10859325028683]\n  v5 = And64 <int64> v2 v2\n";
     assert_eq!(rt; left.status, 0);
@@ -636,7 +689,7 @@ fn rules(rt: HostRuntime) -> Result<(), Memory> {
         room: 100_000,
         error_room: 100,
     };
-    let left = answered(&rt, "rules", b"", faults)?;
+    let left = answered(&rt, rt.alloc(), "rules", b"", faults)?;
     let text = str::from_utf8(left.out.bytes()).unwrap_or("");
     assert_eq!(rt; left.status, 0);
     let lists = [
@@ -656,7 +709,7 @@ fn rules(rt: HostRuntime) -> Result<(), Memory> {
 fn prefixes(rt: HostRuntime) -> Result<(), Memory> {
     let text = LOOP.as_bytes();
     for len in 0..text.len() {
-        let left = answered(&rt, "check riscv64", &text[..len], NO_FAULT)?;
+        let left = answered(&rt, rt.alloc(), "check riscv64", &text[..len], NO_FAULT)?;
         assert!(rt; left.status == 0 || left.status == 3, "{len}");
     }
     Ok(())
@@ -690,7 +743,7 @@ fn faults(rt: HostRuntime) -> Result<(), Memory> {
             room,
             error_room,
         };
-        let left = answered(&rt, words, ADD.as_bytes(), faults)?;
+        let left = answered(&rt, rt.alloc(), words, ADD.as_bytes(), faults)?;
         assert_eq!(rt; left.status, status, "{words}");
         assert_eq!(rt; left.out.bytes().len(), out, "{words}");
         assert_eq!(rt; left.err.bytes(), err.as_bytes(), "{words}");
@@ -699,14 +752,14 @@ fn faults(rt: HostRuntime) -> Result<(), Memory> {
 }
 
 /// The object of a package of so many functions by so many workers, past a gate.
-fn gated<G: Gate + Sync>(
-    rt: &HostRuntime,
+fn gated<R: Threads + Sync, G: Gate + Sync>(
+    rt: &R,
+    alloc: Global,
     functions: &str,
     workers: &str,
     gate: &G,
 ) -> Result<MemSink, Memory> {
-    let alloc = rt.alloc();
-    let text = answered(rt, functions, b"", ROOMY)?;
+    let text = answered(rt, alloc, functions, b"", ROOMY)?;
     let words = words_of(alloc, workers)?;
     let mut input = MemSource::new(text.out.bytes().to_vec(alloc)?, Vec::new(alloc));
     let mut extra = MemSource::new(Vec::new(alloc), Vec::new(alloc));
@@ -721,12 +774,12 @@ fn gated<G: Gate + Sync>(
 #[test]
 fn two_workers_are_in_each_round_at_once(rt: HostRuntime) -> Result<(), Memory> {
     let gate = Held::new();
-    let two = gated(&rt, "gen 4", "compile riscv64 2", &gate)?;
+    let two = gated(&rt, rt.alloc(), "gen 4", "compile riscv64 2", &gate)?;
     assert!(rt; !gate.failed());
     for number in 0..4 {
         assert_eq!(rt; gate.times(number), 2);
     }
-    let one = gated(&rt, "gen 4", "compile riscv64 1", &Open)?;
+    let one = gated(&rt, rt.alloc(), "gen 4", "compile riscv64 1", &Open)?;
     assert!(rt; !one.bytes().is_empty());
     assert!(rt; one.bytes() == two.bytes());
     Ok(())
@@ -735,7 +788,7 @@ fn two_workers_are_in_each_round_at_once(rt: HostRuntime) -> Result<(), Memory> 
 #[test]
 fn one_worker_claims_in_rising_order(rt: HostRuntime) -> Result<(), Memory> {
     let gate = Rising::new(5);
-    gated(&rt, "gen 5", "compile arm 1", &gate)?;
+    gated(&rt, rt.alloc(), "gen 5", "compile arm 1", &gate)?;
     assert!(rt; !gate.failed());
     assert_eq!(rt; gate.claims(), 10);
     Ok(())

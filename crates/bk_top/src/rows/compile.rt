@@ -36,7 +36,15 @@ pub fn compile<R: Threads + Sync, G: Gate + Sync>(
 {
     names_of_texts();
     let pkg = package_of(alloc, text, request.target)?;
-    object_of(rt, alloc, &pkg, request.target, rules, request.workers, gate)
+    object_of(
+        rt,
+        alloc,
+        &pkg,
+        request.target,
+        rules,
+        request.workers,
+        gate,
+    )
 }
 
 /// The object of a package; its refused functions are told by their names.
