@@ -26,7 +26,7 @@ def live_package():
             op = OPS[(number + value) % len(OPS)]
             lines.append(f"v{value} = {op} <int64> v{value - 1} v{2 + value % 2}")
         last = 4 + VALUES
-        lines += [f"v{last} = MakeResult <(int64,mem)> v{last - 1} v1", f"Ret v{last}", ""]
+        lines += [f"v{last} = MakeResult <int64,mem> v{last - 1} v1", f"Ret v{last}", ""]
     return "\n".join(lines).encode()
 
 
