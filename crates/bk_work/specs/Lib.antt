@@ -1,5 +1,6 @@
 pub mod Each
 pub mod Framed
+pub mod Indexed
 pub mod Lowered
 pub mod Package
 pub mod Placed

@@ -18,9 +18,11 @@ use Rattle.bk_work.specs.declared.items.Done.TheVariants.{Lowered, Ready, Refuse
 use Rattle.bk_work.specs.declared.refusals.Cause.{Cause}
 use Rattle.bk_work.specs.declared.refusals.Cause.TheVariants.{Frame}
 use Rattle.bk_work.specs.declared.rounds.Job.{Job}
+use Rattle.bk_work.specs.declared.rules.Lists.{Lists}
 use Rattle.bk_work.specs.declared.rounds.Job.TheVariants.{Lower, Emit}
 use Rattle.bk_work.specs.Each.{Each}
 use Rattle.bk_work.specs.Framed.{FramedRecord, IsFramed, IsTooDeep}
+use Rattle.bk_work.specs.Indexed.{AreIndexed}
 use Rattle.bk_work.specs.Lowered.{IsLowered}
 use Rattle.bk_work.specs.Package.{IsPiece, in_area}
 use Rattle.bk_work.specs.Refused.{IsRefused, IsUnframed}
@@ -130,10 +132,10 @@ IsAnnounced announced k = Contains (keys_of announced k.area) k.key
 abbrev pub AreKeys : List Entry → Type 0
 AreKeys lowered = All (λ (e : Entry). All fixup.IsKey e.1.items) lowered
 
--- the rules by which a worker lowers; to make code it needs none
-abbrev pub AreRules : Target → Job → RulesRecord → Type 0
-AreRules t (Lower extra) rules = rules ≡ rules_of t extra.now
-AreRules t (Emit places lowered) rules = Unit {0}
+-- the rules by which a worker lowers, with their indexes; to make code it needs none
+abbrev pub AreRules : Target → Job → Lists → Type 0
+AreRules t (Lower extra) lists = AreIndexed (rules_of t extra.now) lists
+AreRules t (Emit places lowered) lists = Unit {0}
 
 -- the job is to lower by these rules, or to make the code of these functions at these places
 abbrev pub IsLower : Target → Job → RulesRecord → Type 0

@@ -5,6 +5,8 @@ ghost use Rattle.bk_dec64.specs.Budget as halves;
 ghost use Rattle.bk_func.specs.Records.{FuncRecord};
 ghost use Rattle.bk_rewrite.specs.Passes.{Settles};
 ghost use Rattle.bk_rewrite.specs.Places.{HasNumbers, HasRoom};
+ghost use Rattle.bk_rewrite.specs.Roots.{IsIndex};
+ghost use Rattle.bk_work.specs.Indexed.{AreIndexes};
 ghost use Rattle.bk_work.specs.Lowered.{IsCleaned, IsCoded, IsDecomposed, IsFitted, IsInHalves, IsInWords, IsLowered, IsSettled, pass_limit};
 ghost use Rattle.bk_work.specs.Refused.{IsRefused, IsUnfit, IsUnframed, IsUnhalved, IsUnsettled, LacksCode, grown};
 ghost use Rattle.bk_work.specs.Rules.{rules_of};
@@ -12,13 +14,13 @@ ghost use Rattle.bk_work.specs.Stops.{IfRefused};
 
 use crate::numbers::{has_numbers, has_room};
 use crate::refusals::{Cause, Stop};
-use crate::rules::Rules;
+use crate::rules::Lists;
 use bk_calls::word_areas;
 use bk_dec64::decompose;
 use bk_func::{Func, Memory, Package, copy_func, first_construct};
 use bk_graph::clean;
 use bk_ops::Target;
-use bk_rewrite::rewrite;
+use bk_rewrite::{Index, rewrite_by};
 use bk_rule::Rule;
 use std::alloc::Global;
 
@@ -37,11 +39,11 @@ pub fn compile_one(
     ensures cause { (f : FuncRecord) → slice_get pkg.now.funcs func ≡ Some f → IfOk result (λ made. IfErr made (IsRefused pkg.now target (rules_of target extra.now) f)) }
     ensures unframed { IfOk result (λ made. IfErr made IsUnframed) }
 {
-    let rules = Rules::new(alloc, target, extra)?;
+    let lists = Lists::new(alloc, target, extra)?;
     let Some(func) = pkg.funcs.get(func as usize) else {
         return Err(Memory);
     };
-    match lowered(alloc, pkg, target, &rules, func) {
+    match lowered(alloc, pkg, target, &lists, func) {
         Ok(func) => Ok(Ok(func)),
         Err(Stop::Refused(cause)) => Ok(Err(cause)),
         Err(Stop::Memory) => Err(Memory),
@@ -53,22 +55,24 @@ pub(crate) fn lowered(
     alloc: Global,
     pkg: &Package,
     target: Target,
-    rules: &Rules,
+    lists: &Lists,
     func: &Func,
 ) -> Result<Func, Stop>
-    ensures lowered { IfOk result (IsLowered pkg.now target rules.now func.now) }
-    ensures cause { IfErr result (λ stop. IfRefused stop (λ cause. IsRefused pkg.now target rules.now func.now cause × IsUnframed cause)) }
+    requires { AreIndexes lists.now.rules lists.now.indexes }
+    ensures lowered { IfOk result (IsLowered pkg.now target lists.now.rules func.now) }
+    ensures cause { IfErr result (λ stop. IfRefused stop (λ cause. IsRefused pkg.now target lists.now.rules func.now cause × IsUnframed cause)) }
 {
+    let Lists { rules, indexes } = lists;
     // Dead values go before all, so that one that the target has no code for refuses nothing.
     let live = coded(alloc, func, target)?;
     // Rules that hold on every target take values as wide as their types, so they come before words, which may be wider.
-    let generic = settled(alloc, live, &rules.generic, target)?;
+    let generic = settled(alloc, live, &rules.generic, &indexes.generic, target)?;
     // Words of arm have 32 bits, and calls take and give words.
-    let fit = fitted(alloc, pkg, generic, &rules.halves, target)?;
+    let fit = fitted(alloc, pkg, generic, lists, target)?;
     // Calls take and give words before the target's rules, which know words alone.
     let words = in_words(alloc, pkg, fit, target)?;
     // Last, since nothing else knows the target's own ops.
-    settled(alloc, words, &rules.machine, target)
+    settled(alloc, words, &rules.machine, &indexes.machine, target)
 }
 
 /// The function without what is dead, where the target has code for each value that is left.
@@ -84,11 +88,18 @@ fn coded(alloc: Global, func: &Func, target: Target) -> Result<Func, Stop>
 }
 
 /// The function rewritten until no rule matches, without what this made dead.
-fn settled(alloc: Global, func: Func, rules: &[Rule], target: Target) -> Result<Func, Stop>
+fn settled(
+    alloc: Global,
+    func: Func,
+    rules: &[Rule],
+    index: &Index,
+    target: Target,
+) -> Result<Func, Stop>
+    requires { IsIndex rules.now index.now }
     ensures settled { IfOk result (IsSettled target rules.now func) }
     ensures cause { IfErr result (λ stop. IfRefused stop (IsUnsettled target rules.now func)) }
 {
-    let last = rewritten(alloc, func, rules, target)?;
+    let last = rewritten(alloc, func, rules, index, target)?;
     Ok(cleaned(alloc, last)?)
 }
 
@@ -100,12 +111,19 @@ fn cleaned(alloc: Global, func: Func) -> Result<Func, Memory>
     Ok(func)
 }
 
-fn rewritten(alloc: Global, func: Func, rules: &[Rule], target: Target) -> Result<Func, Stop>
+fn rewritten(
+    alloc: Global,
+    func: Func,
+    rules: &[Rule],
+    index: &Index,
+    target: Target,
+) -> Result<Func, Stop>
+    requires { IsIndex rules.now index.now }
     ensures settled { IfOk result (Settles target rules.now (pass_limit func) func) }
     ensures cause { IfErr result (λ stop. IfRefused stop (IsUnsettled target rules.now func)) }
 {
     ask_numbers(alloc, &func)?;
-    Ok(rewrite(alloc, func, rules, target)?)
+    Ok(rewrite_by(alloc, func, rules, index, target)?)
 }
 
 /// A text has no number twice and none above 2,147,483,647, and a step gives at most 32,768 values the numbers after the
@@ -127,25 +145,35 @@ fn fitted(
     alloc: Global,
     pkg: &Package,
     func: Func,
-    rules: &[Rule],
+    lists: &Lists,
     target: Target,
 ) -> Result<Func, Stop>
-    ensures fitted { IfOk result (IsFitted pkg.now target rules.now func) }
-    ensures cause { IfErr result (λ stop. IfRefused stop (IsUnfit pkg.now target rules.now func)) }
+    requires { AreIndexes lists.now.rules lists.now.indexes }
+    ensures fitted { IfOk result (IsFitted pkg.now target lists.now.rules.halves func) }
+    ensures cause { IfErr result (λ stop. IfRefused stop (IsUnfit pkg.now target lists.now.rules.halves func)) }
 {
     match target {
-        Target::Arm => in_halves(alloc, pkg, func, rules),
+        Target::Arm => {
+            in_halves(alloc, pkg, func, &lists.rules.halves, &lists.indexes.halves)
+        }
         Target::Riscv64 => Ok(func),
     }
 }
 
 /// The function with 64 bits in two words of arm.
-fn in_halves(alloc: Global, pkg: &Package, func: Func, rules: &[Rule]) -> Result<Func, Stop>
+fn in_halves(
+    alloc: Global,
+    pkg: &Package,
+    func: Func,
+    rules: &[Rule],
+    index: &Index,
+) -> Result<Func, Stop>
+    requires { IsIndex rules.now index.now }
     ensures halves { IfOk result (IsInHalves pkg.now rules.now func) }
     ensures cause { IfErr result (λ stop. IfRefused stop (IsUnhalved pkg.now rules.now func)) }
 {
     let apart = apart(alloc, pkg, func)?;
-    settled(alloc, apart, rules, Target::Arm)
+    settled(alloc, apart, rules, index, Target::Arm)
 }
 
 fn apart(alloc: Global, pkg: &Package, func: Func) -> Result<Func, Stop>

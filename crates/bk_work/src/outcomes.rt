@@ -2,6 +2,7 @@
 ghost use Rattle.std.specs.Prelude.{◌≡◌, ◌++◌, ◌∷◌, [], IfErr, IfOk, List, OnOk, length};
 ghost use Rattle.bk_func.specs.Records.{FuncRecord, PackageRecord};
 ghost use Rattle.bk_work.specs.Framed.{IsMade};
+ghost use Rattle.bk_work.specs.Indexed.{AreIndexes};
 ghost use Rattle.bk_work.specs.Package.{AreOutcomes, refusal};
 ghost use Rattle.bk_work.specs.Refused.{IsRefused};
 ghost use Rattle.bk_work.specs.Rules.{RulesRecord};
@@ -11,7 +12,7 @@ use crate::framing::{Framed, in_frame};
 use crate::listed::put;
 use crate::lowering::lowered;
 use crate::refusals::{Cause, Refusal, Stop};
-use crate::rules::Rules;
+use crate::rules::Lists;
 use bk_func::{Func, Memory, Package};
 use bk_ops::Target;
 use std::alloc::{AllocError, Global};
@@ -28,16 +29,17 @@ impl Outcomes {
         alloc: Global,
         pkg: &Package,
         target: Target,
-        rules: &Rules,
+        lists: &Lists,
     ) -> Result<Outcomes, Memory>
-        ensures { IfOk result (λ it. AreOutcomes pkg.now target rules.now 0 pkg.now.funcs it.framed.items it.refusals.items) }
+        requires { AreIndexes lists.now.rules lists.now.indexes }
+        ensures { IfOk result (λ it. AreOutcomes pkg.now target lists.now.rules 0 pkg.now.funcs it.framed.items it.refusals.items) }
     {
         let mut outcomes = Outcomes {
             framed: Vec::with_capacity(alloc, pkg.funcs.len())?,
             refusals: Vec::new(alloc),
         };
         for (place, func) in pkg.funcs.iter().enumerate() {
-            let made = made(alloc, pkg, target, rules, func);
+            let made = made(alloc, pkg, target, lists, func);
             outcomes.note(place, made)?;
         }
         Ok(outcomes)
@@ -79,12 +81,13 @@ fn made(
     alloc: Global,
     pkg: &Package,
     target: Target,
-    rules: &Rules,
+    lists: &Lists,
     func: &Func,
 ) -> Result<Framed, Stop>
-    ensures made { IfOk result (IsMade pkg.now target rules.now func.now) }
-    ensures cause { IfErr result (λ stop. IfRefused stop (IsRefused pkg.now target rules.now func.now)) }
+    requires { AreIndexes lists.now.rules lists.now.indexes }
+    ensures made { IfOk result (IsMade pkg.now target lists.now.rules func.now) }
+    ensures cause { IfErr result (λ stop. IfRefused stop (IsRefused pkg.now target lists.now.rules func.now)) }
 {
-    let lowered = lowered(alloc, pkg, target, rules, func)?;
+    let lowered = lowered(alloc, pkg, target, lists, func)?;
     in_frame(alloc, pkg, target, &lowered)
 }

@@ -11,7 +11,7 @@ use crate::outcomes::Outcomes;
 use crate::placing::{Ends, Firsts, empty, placed};
 use crate::refusals::PackageError;
 use crate::rounds::Round;
-use crate::rules::Rules;
+use crate::rules::Lists;
 use crate::run::whole_round;
 use bk_dump::claim_order;
 use bk_func::Package;
@@ -112,8 +112,8 @@ fn all_framed(
     ensures cause { IfErr result (IsError pkg.now target extra.now) }
     ensures unlinked { IfErr result (λ error. (n : ℕ) → error ≡ PackageError.Text n → ⊥) }
 {
-    let rules = Rules::new(alloc, target, extra)?;
-    let outcomes = Outcomes::new(alloc, pkg, target, &rules)?;
+    let lists = Lists::new(alloc, target, extra)?;
+    let outcomes = Outcomes::new(alloc, pkg, target, &lists)?;
     if outcomes.refusals.is_empty() {
         Ok(outcomes.framed)
     } else {

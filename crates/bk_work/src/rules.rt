@@ -2,10 +2,12 @@
 ghost use Rattle.std.specs.Prelude.{◌≡◌, ◌++◌, IfOk};
 ghost use Rattle.bk_rules_dec64.specs.Lines.{dec64_list};
 ghost use Rattle.bk_rules_generic.specs.Lines.{generic_list};
+ghost use Rattle.bk_work.specs.Indexed.{AreIndexed, AreIndexes};
 ghost use Rattle.bk_work.specs.Rules.{halves_rules, machine_rules, rules_of};
 
 use bk_func::Memory;
 use bk_ops::Target;
+use bk_rewrite::{Index, index_rules};
 use bk_rule::{Rule, copy_rules};
 use bk_rules_arm::arm_rules;
 use bk_rules_dec64::dec64_rules;
@@ -14,7 +16,7 @@ use bk_rules_rv::rv_rules;
 use std::alloc::Global;
 use std::marker::Model;
 
-/// The rules of the rewritings, made once for all functions of a package.
+/// The rules of the rewritings.
 #[derive(Drop)]
 pub struct Rules {
     /// Those that hold on every target, and behind them the extra ones.
@@ -40,7 +42,7 @@ impl Model for Rules {
 }
 
 impl Rules {
-    pub(crate) fn none(alloc: Global) -> Rules {
+    fn none(alloc: Global) -> Rules {
         Rules {
             generic: Vec::new(alloc),
             halves: Vec::new(alloc),
@@ -48,7 +50,7 @@ impl Rules {
         }
     }
 
-    pub(crate) fn new(alloc: Global, target: Target, extra: &[Rule]) -> Result<Rules, Memory>
+    fn new(alloc: Global, target: Target, extra: &[Rule]) -> Result<Rules, Memory>
         ensures { IfOk result (λ rules. rules ≡ rules_of target extra.now) }
     {
         Ok(Rules {
@@ -56,6 +58,50 @@ impl Rules {
             halves: halves_rules(alloc, target)?,
             machine: machine_rules(alloc, target)?,
         })
+    }
+}
+
+/// Each list of rules by the ops at their roots.
+#[derive(Drop)]
+pub struct Indexes {
+    pub(crate) generic: Index,
+    pub(crate) halves: Index,
+    pub(crate) machine: Index,
+}
+
+impl Indexes {
+    fn new(alloc: Global, rules: &Rules) -> Result<Indexes, Memory>
+        ensures { IfOk result (AreIndexes rules.now) }
+    {
+        Ok(Indexes {
+            generic: index_rules(alloc, &rules.generic)?,
+            halves: index_rules(alloc, &rules.halves)?,
+            machine: index_rules(alloc, &rules.machine)?,
+        })
+    }
+}
+
+/// The rules of the rewritings with their indexes, made once for all functions of a package.
+#[derive(Drop)]
+pub struct Lists {
+    pub(crate) rules: Rules,
+    pub(crate) indexes: Indexes,
+}
+
+impl Lists {
+    pub(crate) fn new(alloc: Global, target: Target, extra: &[Rule]) -> Result<Lists, Memory>
+        ensures { IfOk result (AreIndexed (rules_of target extra.now)) }
+    {
+        let rules = Rules::new(alloc, target, extra)?;
+        let indexes = Indexes::new(alloc, &rules)?;
+        Ok(Lists { rules, indexes })
+    }
+
+    /// No rules.
+    pub(crate) fn none(alloc: Global) -> Result<Lists, Memory> {
+        let rules = Rules::none(alloc);
+        let indexes = Indexes::new(alloc, &rules)?;
+        Ok(Lists { rules, indexes })
     }
 }
 

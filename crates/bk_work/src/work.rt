@@ -5,6 +5,7 @@ ghost use Rattle.bk_core.specs.Rule.{keys_of};
 ghost use Rattle.bk_func.specs.Records.{FuncRecord};
 ghost use Rattle.bk_share.specs.Passes.{IsPassOf, announced_in, view};
 ghost use Rattle.bk_work.specs.Each.{Each};
+ghost use Rattle.bk_work.specs.Indexed.{AreIndexes};
 ghost use Rattle.bk_work.specs.Rounds.{AreRules, IsAnnounced, IsAt, IsListed, IsDone, IsFirst, IsHandle, IsItem, IsReady, IsSecond, KnowsOn, Worked};
 
 use crate::coding::emit;
@@ -14,7 +15,7 @@ use crate::listed::put;
 use crate::lowering::lowered;
 use crate::refusals::Stop;
 use crate::rounds::{Job, Round};
-use crate::rules::Rules;
+use crate::rules::Lists;
 use bk_fixup::keys_of;
 use bk_func::{Func, Memory, Package};
 use bk_io::Gate;
@@ -47,7 +48,7 @@ impl<'a> Round<'a> {
         ensures worked { IfOk result (λ part. Worked (length self.now.order.now) (view pass.old) (view pass.new) part.items.items) }
         ensures items { IfOk result (λ part. All (IsItem self.now.pkg.now self.now.target self.now.job self.now.order.now (Contains (view pass.new).known)) part.items.items) }
     {
-        let rules = self.rules(alloc)?;
+        let lists = self.lists(alloc)?;
         let mut items = Vec::new(alloc);
         'claims: loop {
             let Some(claim) = self.share.claim(pass) else {
@@ -55,18 +56,18 @@ impl<'a> Round<'a> {
             };
             gate.at_claim(worker, claim);
             let func = self.order[claim as usize];
-            let done = self.done(alloc, pass, &rules, func)?;
+            let done = self.done(alloc, pass, &lists, func)?;
             put(&mut items, (claim, func, done))?;
         }
     }
 
     /// The rules by which the worker lowers.
-    fn rules(&self, alloc: Global) -> Result<Rules, Memory>
-        ensures { IfOk result (λ rules. AreRules self.now.target self.now.job rules) }
+    fn lists(&self, alloc: Global) -> Result<Lists, Memory>
+        ensures { IfOk result (AreRules self.now.target self.now.job) }
     {
         match &self.job {
-            Job::Lower(extra) => Rules::new(alloc, self.target, extra),
-            Job::Emit(_, _) => Ok(Rules::none(alloc)),
+            Job::Lower(extra) => Lists::new(alloc, self.target, extra),
+            Job::Emit(_, _) => Lists::none(alloc),
         }
     }
 
@@ -75,17 +76,17 @@ impl<'a> Round<'a> {
         &self,
         alloc: Global,
         pass: &mut Pass,
-        rules: &Rules,
+        lists: &Lists,
         func: u32,
     ) -> Result<Done, Memory>
-        requires rules { AreRules self.now.target self.now.job rules.now }
+        requires rules { AreRules self.now.target self.now.job lists.now }
         requires pass { IsPassOf self.now.share pass.old }
         ensures pass { IsPassOf self.now.share pass.new }
         ensures knows { KnowsOn (view pass.old) (view pass.new) }
         ensures done { IfOk result (IsDone self.now.pkg.now self.now.target self.now.job (Contains (view pass.new).known) func) }
     {
         match &self.job {
-            Job::Lower(_) => lowered_at(alloc, self.pkg, self.target, rules, func),
+            Job::Lower(_) => lowered_at(alloc, self.pkg, self.target, lists, func),
             Job::Emit(places, lowered) => {
                 let Some(entry) = entry_of(places, lowered, func) else {
                     return Err(Memory);
@@ -140,15 +141,16 @@ fn lowered_at(
     alloc: Global,
     pkg: &Package,
     target: Target,
-    rules: &Rules,
+    lists: &Lists,
     func: u32,
 ) -> Result<Done, Memory>
-    ensures { IfOk result (λ done. (f : FuncRecord) × (slice_get pkg.now.funcs func ≡ Some f) × IsFirst pkg.now target rules.now f done) }
+    requires { AreIndexes lists.now.rules lists.now.indexes }
+    ensures { IfOk result (λ done. (f : FuncRecord) × (slice_get pkg.now.funcs func ≡ Some f) × IsFirst pkg.now target lists.now.rules f done) }
 {
     let Some(func) = pkg.funcs.get(func as usize) else {
         return Err(Memory);
     };
-    match lowered(alloc, pkg, target, rules, func) {
+    match lowered(alloc, pkg, target, lists, func) {
         Ok(func) => with_keys(alloc, func),
         Err(Stop::Refused(cause)) => Ok(Done::Refused(cause)),
         Err(Stop::Memory) => Err(Memory),

@@ -4,11 +4,11 @@ use Rattle.bk_work.proofs.Steps.{refused_rewrite, stopped}
 use Rattle.bk_work.proofs.lowering.rewritten.Goals as goal
 
 pub returns-clause-settled : goal.returns-clause-settled
-returns-clause-settled c = c.in_ok-rewrite.ensures.settled c.in_ok-ask_numbers.ensures.numbers
+returns-clause-settled c = c.in_ok-rewrite_by.ensures.settled c.in_ok-ask_numbers.ensures.numbers
 
-pub returns-in_err-rewrite-clause-cause : goal.returns-in_err-rewrite-clause-cause
-returns-in_err-rewrite-clause-cause c =
+pub returns-in_err-rewrite_by-clause-cause : goal.returns-in_err-rewrite_by-clause-cause
+returns-in_err-rewrite_by-clause-cause c =
     let own = c.in_ok-ask_numbers.ensures.numbers in
-    stopped (IsUnsettled c.args.target c.args.rules.now c.args.func) c.from_residual-in_err-rewrite.result (stop_of c.in_err-rewrite.field-0.0) c.from_residual-in_err-rewrite.ensures.1
-    (refused_rewrite c.args.target c.args.rules.now c.args.func c.in_err-rewrite.field-0.0 c.in_err-rewrite.ensures.refused (c.in_err-rewrite.ensures.passes own)
-    (c.in_err-rewrite.ensures.grown own))
+    stopped (IsUnsettled c.args.target c.args.rules.now c.args.func) c.from_residual-in_err-rewrite_by.result (stop_of c.in_err-rewrite_by.field-0.0) c.from_residual-in_err-rewrite_by.ensures.1
+    (refused_rewrite c.args.target c.args.rules.now c.args.func c.in_err-rewrite_by.field-0.0 c.in_err-rewrite_by.ensures.refused (c.in_err-rewrite_by.ensures.passes own)
+    (c.in_err-rewrite_by.ensures.grown own))
