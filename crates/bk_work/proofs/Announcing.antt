@@ -1,5 +1,5 @@
 -- The keys that a round announces.
-use Rattle.std.proofs.Common.{◌≡◌, ◌≢◌, ℕ, zero, suc, ◌<◌, ◌==◌, Bool, true, false, cond, List, [], ◌∷◌, length, map, get_or, refl, sym, ap, ◌∙◌, subst, arith, eq-eqb, ⊎_elim, true≢false, Some}
+use Rattle.std.proofs.Common.{◌≡◌, ◌≢◌, ℕ, zero, suc, ◌<◌, ◌==◌, Bool, true, false, cond, List, [], ◌∷◌, map, get_or, refl, sym, ap, ◌∙◌, subst, arith, eq-eqb, ⊎_elim, true≢false, Some}
 use Rattle.std.specs.Prelude.{slice_get}
 use Rattle.std.specs.List.{All, Contains, filter, flat_map}
 use Rattle.std.proofs.lemmas.Bool.Decides.{nat_tests}
@@ -54,9 +54,9 @@ from_key a (z ∷ ks) q h = by (from_key a ks q) (z.area == a) refl h
         → (k : Key) × Contains (z ∷ ks) k × (k.area ≡ a) × (k.key ≡ q)
     by again true t r = ⊎_elim
         (λ (same : z.key ≡ q). (z, has_here z ks, grind (arith, nat_tests), same))
-        (λ rest. let i = again rest in (i.0, has_there z ks i.0 i.1, i.2))
+        (λ rest. let i = again rest in (i.0, has_there z ks i.0 i.1, i.2, i.3))
         (has_cases z.key (in_area a ks) q r)
-    by again false t r = let i = again r in (i.0, has_there z ks i.0 i.1, i.2)
+    by again false t r = let i = again r in (i.0, has_there z ks i.0 i.1, i.2, i.3)
 
 -- no announced key is 0
 abbrev AreFull : List ℕ → Type 0

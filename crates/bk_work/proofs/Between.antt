@@ -1,11 +1,10 @@
 -- Between the rounds: the functions that are lowered, at their places in rising order.
-use Rattle.std.proofs.Common.{◌≡◌, ◌≢◌, ⊎_elim, ℕ, zero, suc, ◌+◌, ◌<◌, ◌≤◌, Bool, true, false, cond, List, [], ◌∷◌, length, map, refl, sym, ap, ◌∙◌, subst, arith, true≢false, Option, None, Some}
+use Rattle.std.proofs.Common.{◌≡◌, ◌≢◌, ⊎_elim, ℕ, zero, suc, ◌+◌, ◌<◌, Bool, true, false, cond, List, [], ◌∷◌, length, map, refl, sym, ap, ◌∙◌, subst, arith, true≢false, Option, None, Some}
 use Rattle.std.specs.Prelude.{slice_get}
 use Rattle.std.specs.List.{All, Contains, filter}
-use Rattle.std.proofs.lemmas.List.Elements.{All-cons, All-nil, All-weaker}
+use Rattle.std.proofs.lemmas.List.Elements.{All-cons, All-nil}
 use Rattle.std.proofs.lemmas.List.Kept.{AllPairs-cons}
 use Rattle.std.proofs.lemmas.List.Sorted.{Contains-permutation}
-use Rattle.std.proofs.lemmas.Option.{slice_get_within}
 use Rattle.bk_func.specs.Records.{FuncRecord, PackageRecord}
 use Rattle.bk_ops.specs.declared.types.Target.{Target}
 use Rattle.bk_dump.specs.ClaimOrder.{IsClaimOrder, Ranked, place_of, ranked, ranked_from}
@@ -17,8 +16,7 @@ use Rattle.bk_work.specs.declared.items.Done.{Done}
 use Rattle.bk_work.specs.declared.items.Done.TheVariants as done
 use Rattle.bk_work.specs.declared.refusals.Cause.{Cause}
 use Rattle.bk_work.specs.Each.{Each, none, more}
-use Rattle.bk_work.specs.Placed.{AreFirsts, is_open, is_without, lowered, no_firsts, stopped}
-use Rattle.bk_work.specs.Refused.{IsRefused}
+use Rattle.bk_work.specs.Placed.{AreFirsts, is_open, lowered, no_firsts, stopped}
 use Rattle.bk_work.specs.Rounds.{AreKeys, AreLowered, Entry, IsEntryAt, IsFirst}
 use Rattle.bk_work.specs.Rules.{RulesRecord}
 
@@ -33,7 +31,7 @@ first_next pkg t rules k o ds h = λ f d e.
     (g.0, subst (λ n. slice_get pkg.funcs n ≡ Some g.0) same g.1, g.2)
 
 -- the places that are open, the first of these having the place k
-pub open_from : ℕ → List (Option Cause) → List ℕ
+abbrev pub open_from : ℕ → List (Option Cause) → List ℕ
 open_from k [] = []
 open_from k (None ∷ cs) = k ∷ open_from (k + 1) cs
 open_from k (Some cause ∷ cs) = open_from (k + 1) cs

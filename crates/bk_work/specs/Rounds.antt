@@ -1,5 +1,5 @@
 -- What is done in the two rounds of workers.
-use Rattle.std.specs.Prelude.{◌≡◌, ◌≢◌, ◌<◌, ◌≤◌, ℕ, List, [], ◌∷◌, ◌++◌, length, map, slice_get, slice_index, Some}
+use Rattle.std.specs.Prelude.{◌≡◌, ◌<◌, ◌≤◌, ℕ, List, [], ◌∷◌, ◌++◌, length, map, slice_get, slice_index, Some}
 use Rattle.std.specs.List.{All, Contains, filter, flat_map}
 use Rattle.std.specs.Prelude.{Bool}
 use Rattle.std.specs.declared.vec.Vec.{Vec}
@@ -15,7 +15,6 @@ use Rattle.bk_piece.specs.Pieces.{PieceRecord}
 use Rattle.bk_piece.specs.Rising.{rising}
 use Rattle.bk_work.specs.declared.items.Done.{Done}
 use Rattle.bk_work.specs.declared.items.Done.TheVariants.{Lowered, Ready, Refused}
-use Rattle.bk_work.specs.declared.refusals.Cause.{Cause}
 use Rattle.bk_work.specs.declared.refusals.Cause.TheVariants.{Frame}
 use Rattle.bk_work.specs.declared.rounds.Job.{Job}
 use Rattle.bk_work.specs.declared.rules.Lists.{Lists}

@@ -1,7 +1,6 @@
 //! One function from SSA form to code, and a package from its functions.
 #![tactic(auto)]
 
-mod cells;
 mod coding;
 mod framing;
 mod items;

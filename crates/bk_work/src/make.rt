@@ -1,16 +1,16 @@
 // Rounds are made and closed.
-ghost use Rattle.std.specs.Prelude.{ℕ, ◌≡◌, ◌<◌, ◌≤◌, ◌%◌, ◌^◌, [], ◌∷◌, IfOk, length, map, vec_len};
+ghost use Rattle.std.specs.Prelude.{ℕ, ◌≡◌, ◌<◌, ◌≤◌, ◌%◌, ◌^◌, [], ◌∷◌, ◌++◌, IfOk, OnOk, length, map, vec_len};
 ghost use Rattle.std.specs.List.{Contains};
 ghost use Rattle.bk_core.specs.Rule.{sight};
 ghost use Rattle.bk_core.specs.Events.{CoreState, core_state, MeetsRule, words_of};
 ghost use Rattle.bk_dump.specs.ClaimOrder.{IsClaimOrder};
 ghost use Rattle.bk_piece.specs.Rising.{rising};
 ghost use Rattle.bk_share.specs.Passes.{IsLast, IsPassOf, parts_in, view};
+ghost use Rattle.bk_work.specs.Package.{in_area};
 ghost use Rattle.bk_work.specs.Rounds.{AreLowered, IsEmit, IsInClaimOrder, IsLower, announced_by, announced_for, area_keys};
 ghost use Rattle.bk_work.specs.Rules.{RulesRecord, rules_of};
 ghost use Rattle.bk_work.specs.Run.{in_words, times_in};
 
-use crate::cells::push_in;
 use crate::rounds::{Job, Round};
 use bk_func::{Func, Memory, Package};
 use bk_ops::Target;
@@ -130,11 +130,7 @@ fn announced_by(alloc: Global, lowered: &[(Func, Vec<Key>)]) -> Result<[Vec<u64>
 }
 
 /// The keys of an area in order, with repeats.
-fn area_keys(
-    alloc: Global,
-    lowered: &[(Func, Vec<Key>)],
-    area: u8,
-) -> Result<Vec<u64>, AllocError>
+fn area_keys(alloc: Global, lowered: &[(Func, Vec<Key>)], area: u8) -> Result<Vec<u64>, AllocError>
     ensures { IfOk result (λ words. words.items ≡ area_keys area lowered.now) }
 {
     let mut words = Vec::new(alloc);
@@ -142,4 +138,16 @@ fn area_keys(
         push_in(&mut words, area, &entry.1)?;
     }
     Ok(words)
+}
+
+/// Adds those of the keys that are of the area.
+fn push_in(words: &mut Vec<u64>, area: u8, keys: &[Key]) -> Result<(), AllocError>
+    ensures { OnOk result (words.new.items ≡ words.old.items ++ in_area area keys.now) }
+{
+    for key in keys {
+        if key.area == area {
+            words.push(key.key)?;
+        }
+    }
+    Ok(())
 }

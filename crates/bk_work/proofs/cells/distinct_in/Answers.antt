@@ -1,7 +1,0 @@
-use Rattle.std.proofs.Common.{◌∙◌, ap}
-use Rattle.bk_piece.specs.Rising.{rising}
-use Rattle.bk_work.proofs.Sorting.{distinct_is}
-use Rattle.bk_work.proofs.cells.distinct_in.Goals as goal
-
-pub returns : goal.returns
-returns c = distinct_is c.in_ok-words.words.items _ _ c.sort_unstable.ensures.permutation c.sort_unstable.ensures.sorted c.dedup.ensures.filtered ∙ ap rising c.in_ok-words.ensures
