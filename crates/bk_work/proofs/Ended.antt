@@ -1,7 +1,7 @@
 -- What both rounds made of all functions.
-use Rattle.std.proofs.Common.{◌≡◌, ◌≢◌, ⊎_elim, ℕ, zero, suc, ◌+◌, ◌<◌, ◌≤◌, List, [], ◌∷◌, ◌++◌, length, map, refl, sym, ap, ◌∙◌, subst, arith, Option, None, Some}
+use Rattle.std.proofs.Common.{◌≡◌, ℕ, zero, suc, ◌+◌, List, [], ◌∷◌, length, map, refl, sym, ap, ◌∙◌, subst, arith, Option, Some}
 use Rattle.std.specs.Prelude.{slice_get}
-use Rattle.std.specs.List.{All, Contains}
+use Rattle.std.specs.List.{Contains}
 use Rattle.bk_core.specs.Events.{word_at}
 use Rattle.bk_func.specs.Records.{FuncRecord, PackageRecord}
 use Rattle.bk_ops.specs.declared.types.Target.{Target}
@@ -11,17 +11,16 @@ use Rattle.bk_piece.specs.declared.Handle.{Handle}
 use Rattle.bk_piece.specs.declared.Key.{Key}
 use Rattle.bk_piece.specs.Filled.{key_at, key_in}
 use Rattle.bk_piece.specs.Pieces.{PieceRecord}
-use Rattle.bk_piece.proofs.Elements.{has_here, has_none, has_there}
+use Rattle.bk_piece.proofs.Elements.{has_here, has_there}
 use Rattle.bk_work.specs.declared.items.Done.{Done}
 use Rattle.bk_work.specs.declared.items.Done.TheVariants as done
-use Rattle.bk_work.specs.declared.refusals.Cause.{Cause}
 use Rattle.bk_work.specs.declared.refusals.Refusal.{Refusal}
 use Rattle.bk_work.specs.Each.{Each, none, more}
 use Rattle.bk_work.specs.Framed.{FramedRecord, IsMade}
-use Rattle.bk_work.specs.Package.{AreOutcomes, IsCode, none_left, in_frame, refused, refusal}
+use Rattle.bk_work.specs.Package.{AreOutcomes, IsCode, none_left, in_frame, refused}
 use Rattle.bk_work.specs.Placed.{AreEnds, no_ends, ready, refused_end}
 use Rattle.bk_work.specs.Refused.{IsRefused, frame}
-use Rattle.bk_work.specs.Rounds.{Entry, IsAt, IsEntry, IsEntryAt, IsHandle, IsSecond}
+use Rattle.bk_work.specs.Rounds.{Entry, IsAt, IsEntry, IsHandle, IsSecond}
 use Rattle.bk_work.specs.Rules.{RulesRecord}
 use Rattle.bk_work.specs.Run.{in_words}
 
@@ -61,18 +60,18 @@ ready_first : (pkg : PackageRecord) (t : Target) (rules : RulesRecord) (words : 
     → IsEnded pkg t rules words places es (k + 0) g (done.Ready p) → Ended pkg t rules words places es (k + 1) fs ps rs → Ended pkg t rules words places es k (g ∷ fs) (p ∷ ps) rs
 ready_first pkg t rules words places es k g fs p ps rs one rest = record {
   framed = one.0 ∷ rest.framed;
-  outcomes = in_frame k g fs one.0 rest.framed rs one.1 rest.outcomes;
-  code = more one.0 p rest.framed ps one.2 rest.code;
+  outcomes = in_frame k g fs one.0 rest.framed rs one.1.0 rest.outcomes;
+  code = more one.0 p rest.framed ps one.1.1 rest.code;
   all = by;
 }
   where
     by : rs ≡ [] → (f : ℕ) (u : FuncRecord) → slice_get (g ∷ fs) f ≡ Some u
         → (it : FramedRecord) × Contains (one.0 ∷ rest.framed) it × ((e : Entry) × IsAt places es (k + f) e × (fixup.keys_of it.func ≡ e.1.items))
-    by z zero u e = (one.0, has_here one.0 rest.framed, one.3)
+    by z zero u e = (one.0, has_here one.0 rest.framed, one.1.2)
     by z (suc f) u e =
         let i = rest.all z f u e in
         let same : (k + 1) + f ≡ k + suc f = omega arith in
-        (i.0, has_there one.0 rest.framed i.0 i.1, (i.2, subst (λ n. IsAt places es n i.2) same i.3, i.4))
+        (i.0, has_there one.0 rest.framed i.0 i.1, (i.2.0, subst (λ n. IsAt places es n i.2.0) same i.2.1, i.2.2))
 
 pub ended : (pkg : PackageRecord) (t : Target) (rules : RulesRecord) (words : List (List ℕ)) (places : List ℕ) (es : List Entry) (k : ℕ) (fs : List FuncRecord) (ds : List (Option Done)) (ps : List PieceRecord) (rs : List Refusal)
     → AreEnds k ds ps rs → length ds ≡ length fs → FromEnds pkg t rules words places es k fs ds → Ended pkg t rules words places es k fs ps rs
@@ -102,9 +101,11 @@ second_ends pkg t rules words places es f g e (done.Ready p) split entry at s =
     let keys : fixup.keys_of it.func ≡ e.1.items = ap fixup.keys_of s.1.split ∙ (split e.0 ∙ sym entry.keys) in
     let code = s.2 in (
       it,
-      record { lowered = e.0; steps = entry.lowered; framed = s.1 },
-      record { handles = code.handles; keys = handles_are words e.1.items code.handles code.each ∙ sym keys; code = code.code },
-      (e, at, keys),
+      (
+        record { lowered = e.0; steps = entry.lowered; framed = s.1 },
+        record { handles = code.handles; keys = handles_are words e.1.items code.handles code.each ∙ sym keys; code = code.code },
+        (e, at, keys),
+      ),
     )
 second_ends pkg t rules words places es f g e (done.Refused cause) split entry at s = subst (IsRefused pkg t rules g) (sym s.2) (frame e.0 s.0 entry.lowered s.1)
 

@@ -1,18 +1,14 @@
 -- The words of the closed cells are the keys of the functions' code.
-use Rattle.std.proofs.Common.{◌≡◌, ◌≢◌, ⊎_elim, ℕ, zero, suc, ◌+◌, ◌<◌, List, [], ◌∷◌, length, map, get_or, refl, sym, ap, ◌∙◌, subst, arith, Option, None, Some, get_or_default}
+use Rattle.std.proofs.Common.{◌≡◌, ◌≢◌, ⊎_elim, ℕ, zero, suc, ◌<◌, List, [], ◌∷◌, length, map, get_or, refl, sym, ap, ◌∙◌, subst, arith, Some}
 use Rattle.std.specs.Prelude.{slice_get}
-use Rattle.std.specs.List.{All, Contains, flat_map}
-use Rattle.std.proofs.Math.ListN.{get_or-eq_default}
+use Rattle.std.specs.List.{Contains, flat_map}
 use Rattle.std.proofs.lemmas.List.{get_or_default}
 use Rattle.std.proofs.lemmas.Option.{slice_get_within}
-use mathlib.Core.Logic.{dite}
-use native.Mathlib.Decide.{dec_lt}
-use Rattle.bk_core.specs.Rule.{Sight, cells_of, keys_of}
+use Rattle.bk_core.specs.Rule.{cells_of, keys_of}
 use Rattle.bk_core.specs.Events.{CoreState, MeetsRule, word_at}
 use Rattle.bk_fixup.specs.Keys as fixup
 use Rattle.bk_func.specs.Records.{FuncRecord, PackageRecord}
 use Rattle.bk_ops.specs.declared.types.Target.{Target}
-use Rattle.bk_piece.specs.declared.Handle.{Handle}
 use Rattle.bk_piece.specs.declared.Key.{Key}
 use Rattle.bk_piece.specs.Filled.{area, key_at}
 use Rattle.bk_piece.specs.Pieces.{PieceRecord}
@@ -20,14 +16,13 @@ use Rattle.bk_piece.specs.Rising.{Rise, full, keys_in, rising}
 use Rattle.bk_piece.proofs.Elements.{has_cases, has_here, has_none, has_there}
 use Rattle.bk_piece.proofs.Full.{from_full, has_full}
 use Rattle.bk_piece.proofs.Rising.{from_rising, in_rising, same_rising}
-use Rattle.bk_work.specs.declared.refusals.Refusal.{Refusal}
 use Rattle.bk_work.specs.Each.{Each, none, more}
 use Rattle.bk_work.specs.Framed.{FramedRecord}
 use Rattle.bk_work.specs.Package.{IsCode, distinct_in, in_area, words_of}
 use Rattle.bk_work.specs.Rounds.{Entry, IsAt, IsEntryAt, announced_by, area_keys}
 use Rattle.bk_work.specs.Rules.{RulesRecord}
-use Rattle.bk_work.proofs.Announcing.{from_flat, from_key, got_in, has_flat, has_key}
-use Rattle.bk_work.proofs.Ended.{Ended}
+use Rattle.bk_work.proofs.Announcing.{from_flat, from_key, has_flat, has_key}
+use Rattle.bk_work.proofs.Moving.{has_word}
 
 abbrev pub keys_by : List FramedRecord → List (List Key)
 keys_by its = map (λ (it : FramedRecord). fixup.keys_of it.func) its
@@ -97,11 +92,12 @@ sound pkg t rules words places es its ps a q g h =
     let j = at.0 in let f = at.1 in
     let one = g.all f at.4.func at.4.there in
     let it = one.0 in
-    let other = one.3 in
+    let whose = one.2.0 in
+    let other = one.2.1 in
     let same : other.0 ≡ j = one_place places other.0 j f g.rise other.1 at.2 in
-    let also : slice_get es j ≡ Some one.2 = subst (λ (n : ℕ). slice_get es n ≡ Some one.2) same other.2 in
-    let entry : one.2 ≡ e.0 = same_some (sym also ∙ at.3) in
-    let keys : fixup.keys_of it.func ≡ e.0.1.items = one.4 ∙ ap (λ (r : Entry). r.1.items) entry in
+    let also : slice_get es j ≡ Some whose = subst (λ (n : ℕ). slice_get es n ≡ Some whose) same other.2 in
+    let entry : whose ≡ e.0 = same_some (sym also ∙ at.3) in
+    let keys : fixup.keys_of it.func ≡ e.0.1.items = one.2.2 ∙ ap (λ (r : Entry). r.1.items) entry in
     let here : Contains (fixup.keys_of it.func) k.0 = subst (λ (ks : List Key). Contains ks k.0) (sym keys) k.1 in
     has_flat (in_area a) (keys_by its) (fixup.keys_of it.func) q (mapped (λ (x : FramedRecord). fixup.keys_of x.func) its it one.1)
     (subst (λ (n : ℕ). Contains (in_area a (fixup.keys_of it.func)) n) k.3 (has_key a (fixup.keys_of it.func) k.0 here k.2))
@@ -138,12 +134,7 @@ whole pkg t rules words places es its ps a q g ne h =
     let hs = from_map (key_at words) code.1.handles k.0 (subst (λ (l : List Key). Contains l k.0) (sym listed) k.1) in
     let at : hs.0.area ≡ a = ap (λ (x : Key). x.area) hs.2 ∙ k.2 in
     let word : get_or (area words hs.0.area) hs.0.cell 0 ≡ q = ap (λ (x : Key). x.key) hs.2 ∙ k.3 in
-    has_word (area words a) hs.0.cell (subst (λ (n : ℕ). get_or (area words n) hs.0.cell 0 ≡ q) at word)
-  where
-    has_word : (ws : List ℕ) (c : ℕ) → get_or ws c 0 ≡ q → Contains ws q
-    has_word ws c is = dite (dec_lt c (length ws))
-        (λ lt. (c, lt, get_or_default ws c q 0 lt ∙ is))
-        (λ ge. absurd (ne (sym is ∙ get_or-eq_default ws 0 (omega arith))))
+    has_word (area words a) hs.0.cell q ne (subst (λ (n : ℕ). get_or (area words n) hs.0.cell 0 ≡ q) at word)
 
 pub same_keys : (pkg : PackageRecord) (t : Target) (rules : RulesRecord) (words : List (List ℕ)) (places : List ℕ) (es : List Entry) (its : List FramedRecord) (ps : List PieceRecord) (parts : ℕ) (m : CoreState) (a : ℕ)
     → IsGathered pkg t rules words places es its ps → MeetsRule (announced_by es) parts m → m.areas ≡ words → a < 3 → keys_in (area words a) ≡ keys_in (distinct_in a (keys_by its))

@@ -5,8 +5,10 @@ pub mod Ended
 pub mod Gathering
 pub mod Grow
 pub mod Linking
+pub mod Moving
 pub mod Own
 pub mod Pairs
+pub mod Results
 pub mod Slots
 pub mod Sorting
 pub mod Splitting

@@ -1,5 +1,5 @@
 -- The object of a package's pieces, and what is told where there is none.
-use Rattle.std.proofs.Common.{◌≡◌, ℕ, List, Result, Ok, Err}
+use Rattle.std.proofs.Common.{◌≡◌, ℕ, List, ap, ◌∙◌, Result, Ok, Err}
 use Rattle.std.specs.Prelude.{IfErr, IfOk}
 use Rattle.bk_ops.specs.declared.types.Target.{Target}
 use Rattle.bk_func.specs.Records.{PackageRecord}
@@ -9,21 +9,22 @@ use Rattle.bk_elf.specs.File.{file_of}
 use Rattle.bk_link.specs.Linked.{gathered}
 use Rattle.bk_work.specs.declared.refusals.PackageError.{PackageError}
 use Rattle.bk_work.specs.declared.refusals.PackageError.TheVariants.{Functions, Text, Memory}
-use Rattle.bk_work.specs.Package.{ArePieces, IsCompiled, IsError, IsLinkError}
+use Rattle.bk_work.specs.Package.{IsCompiled, IsError, IsLinkError}
 use Rattle.bk_work.specs.Rules.{rules_of}
+use Rattle.bk_work.proofs.Moving.{IsSerial}
 
 pub compiled : {V E : Type 0} (items : V → List ℕ) (r : Result V E) (pkg : PackageRecord) (t : Target) (extra : List Rule) (pieces : List PieceRecord) (words : List (List ℕ))
-    → ArePieces pkg t (rules_of t extra) pieces words → IfOk r (λ bytes. items bytes ≡ file_of (gathered pkg t pieces words)) → IfOk r (λ bytes. IsCompiled pkg t extra (items bytes))
-compiled items (Ok bytes) pkg t extra pieces words made linked = record { pieces = pieces; words = words; made = made; linked = linked }
-compiled items (Err error) pkg t extra pieces words made linked = linked
+    → IsSerial pkg t (rules_of t extra) pieces words → IfOk r (λ bytes. items bytes ≡ file_of (gathered pkg t pieces words)) → IfOk r (λ bytes. IsCompiled pkg t extra (items bytes))
+compiled items (Ok bytes) pkg t extra pieces words serial linked = record { pieces = serial.pieces; words = serial.cells; made = serial.made; linked = linked ∙ ap file_of serial.object }
+compiled items (Err error) pkg t extra pieces words serial linked = linked
 
 error_is : (error : PackageError) (pkg : PackageRecord) (t : Target) (extra : List Rule) (pieces : List PieceRecord) (words : List (List ℕ))
-    → ArePieces pkg t (rules_of t extra) pieces words → IsLinkError pieces words error → IsError pkg t extra error
-error_is (Functions refusals) pkg t extra pieces words made h = absurd h
-error_is (Text bytes) pkg t extra pieces words made h = record { pieces = pieces; words = words; made = made; size = h.0; over = h.1 }
-error_is Memory pkg t extra pieces words made h = tt
+    → IsSerial pkg t (rules_of t extra) pieces words → IsLinkError pieces words error → IsError pkg t extra error
+error_is (Functions refusals) pkg t extra pieces words serial h = absurd h
+error_is (Text bytes) pkg t extra pieces words serial h = record { pieces = serial.pieces; words = serial.cells; made = serial.made; size = h.0 ∙ serial.size; over = h.1 }
+error_is Memory pkg t extra pieces words serial h = tt
 
 pub link_fails : {V : Type 0} (r : Result V PackageError) (pkg : PackageRecord) (t : Target) (extra : List Rule) (pieces : List PieceRecord) (words : List (List ℕ))
-    → ArePieces pkg t (rules_of t extra) pieces words → IfErr r (IsLinkError pieces words) → IfErr r (IsError pkg t extra)
-link_fails (Ok bytes) pkg t extra pieces words made h = h
-link_fails (Err error) pkg t extra pieces words made h = error_is error pkg t extra pieces words made h
+    → IsSerial pkg t (rules_of t extra) pieces words → IfErr r (IsLinkError pieces words) → IfErr r (IsError pkg t extra)
+link_fails (Ok bytes) pkg t extra pieces words serial h = h
+link_fails (Err error) pkg t extra pieces words serial h = error_is error pkg t extra pieces words serial h

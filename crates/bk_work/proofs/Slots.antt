@@ -1,22 +1,15 @@
 -- What workers made comes to the places of the functions, one by one.
-use Rattle.std.proofs.Common.{◌≡◌, ◌≢◌, ◌⊎◌, inl, inr, ⊎_elim, ℕ, zero, suc, ◌+◌, ◌<◌, ◌≤◌, Bool, true, false, List, [], ◌∷◌, ◌++◌, length, map, set, refl, sym, ap, ◌∙◌, subst, arith, Option, None, Some, Result, Ok, Err}
-use Rattle.std.specs.Prelude.{IfOk, slice_get}
-use Rattle.std.specs.List.{All, Contains, filter}
-use Rattle.std.proofs.lemmas.List.Elements.{All-contains, Contains-append_left, Contains-push}
-use mathlib.Core.Logic.{dite}
-use native.Mathlib.Decide.{ℕ_discrete}
-use Rattle.bk_func.specs.Records.{FuncRecord, PackageRecord}
-use Rattle.bk_ops.specs.declared.types.Target.{Target}
+use Rattle.std.proofs.Common.{◌≡◌, ◌⊎◌, inl, inr, ⊎_elim, ℕ, zero, suc, ◌+◌, List, [], ◌∷◌, ◌++◌, length, set, refl, sym, ap, subst, arith, Option, None, Some, Result, Ok, Err}
+use Rattle.std.specs.Prelude.{OnOk, slice_get}
+use Rattle.std.proofs.lemmas.List.Elements.{Contains-append_left, Contains-push}
 use Rattle.bk_piece.specs.Pieces.{PieceRecord}
-use Rattle.bk_piece.specs.Rising.{Rise, rising}
-use Rattle.bk_piece.proofs.Elements.{has_cases, has_here, has_none, has_there}
 use Rattle.bk_work.specs.declared.items.Done.{Done}
 use Rattle.bk_work.specs.declared.items.Done.TheVariants as done
 use Rattle.bk_work.specs.declared.refusals.Cause.{Cause}
 use Rattle.bk_work.specs.declared.refusals.Refusal.{Refusal}
-use Rattle.bk_work.specs.Each.{Each, none, more}
+use Rattle.bk_work.specs.Each.{more}
 use Rattle.bk_work.specs.Package.{refusal}
-use Rattle.bk_work.specs.Placed.{AreEnds, AreFirsts, ArePlaced, is_open, no_ends, no_firsts, lowered, ready, refused_by, refused_end, stopped}
+use Rattle.bk_work.specs.Placed.{AreEnds, AreFirsts, ArePlaced, no_ends, no_firsts, lowered, ready, refused_end, stopped}
 use Rattle.bk_work.specs.Rounds.{Entry, Item}
 
 -- one item more
@@ -44,6 +37,14 @@ pub one_lowered : (ds : List (Option Done)) (es : List Entry) (cs : List (Option
 one_lowered _ _ _ e no_firsts = lowered e [] [] [] no_firsts
 one_lowered _ _ _ e (lowered x ds es cs rest) = lowered x (ds ++ Some (done.Lowered e.0 e.1) ∷ []) (es ++ e ∷ []) (cs ++ None ∷ []) (one_lowered ds es cs e rest)
 one_lowered _ _ _ e (stopped cause ds es cs rest) = stopped cause (ds ++ Some (done.Lowered e.0 e.1) ∷ []) (es ++ e ∷ []) (cs ++ None ∷ []) (one_lowered ds es cs e rest)
+
+pub more_lowered : {X E : Type 0} (r : Result X E) (ds : List (Option Done)) (es more_es : List Entry) (cs more_cs : List (Option Cause)) (slot : Option Done) (e : Entry) → slot ≡ Some (done.Lowered e.0 e.1) → AreFirsts ds es cs
+    → OnOk r (more_es ≡ es ++ e ∷ []) → OnOk r (more_cs ≡ cs ++ None ∷ []) → OnOk r (AreFirsts (ds ++ slot ∷ []) more_es more_cs)
+more_lowered (Ok x) ds es more_es cs more_cs slot e is made lows causes =
+    subst (λ (l : List Entry). AreFirsts (ds ++ slot ∷ []) l more_cs) (sym lows)
+    (subst (λ (l : List (Option Cause)). AreFirsts (ds ++ slot ∷ []) (es ++ e ∷ []) l) (sym causes)
+    (subst (λ (d : Option Done). AreFirsts (ds ++ d ∷ []) (es ++ e ∷ []) (cs ++ None ∷ [])) (sym is) (one_lowered ds es cs e made)))
+more_lowered (Err x) ds es more_es cs more_cs slot e is made lows causes = lows
 
 pub one_stopped : (ds : List (Option Done)) (es : List Entry) (cs : List (Option Cause)) (cause : Cause) → AreFirsts ds es cs → AreFirsts (ds ++ Some (done.Refused cause) ∷ []) es (cs ++ Some cause ∷ [])
 one_stopped _ _ _ cause no_firsts = stopped cause [] [] [] no_firsts

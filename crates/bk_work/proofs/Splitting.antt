@@ -1,13 +1,12 @@
 -- A block on an edge has no values, so it brings no keys.
 use Rattle.std.proofs.Common.{◌≡◌, ℕ, ◌+◌, ◌==◌, Bool, true, false, cond, List, [], ◌∷◌, ◌++◌, refl, sym, ap, ◌∙◌}
-use Rattle.std.specs.Prelude.{if◌then◌else◌}
 use Rattle.std.specs.List.{filter_map, flat_map}
 use Rattle.std.proofs.lemmas.Grind.{flat_map-append}
 use Rattle.std.proofs.lemmas.List.{append-nil}
 use Rattle.std.proofs.lemmas.List.Concat.{flat_map-cons}
 use Rattle.bk_func.specs.Edits.{between, block_of, change_block, greatest_block, rank_in, split, successor_in, with_pred, with_succ}
 use Rattle.bk_func.specs.Records.{BlockRecord, FuncRecord}
-use Rattle.bk_fixup.specs.Keys.{block_keys, key_of, keys_of, type_key}
+use Rattle.bk_fixup.specs.Keys.{block_keys, keys_of, type_key}
 use Rattle.bk_graph.specs.Critical.{EdgeRecord, critical_edges, split_each, without_critical}
 use Rattle.bk_piece.specs.declared.Key.{Key}
 
@@ -15,11 +14,11 @@ use Rattle.bk_piece.specs.declared.Key.{Key}
 changed : (n : ℕ) (F : BlockRecord → BlockRecord) (bs : List BlockRecord) → ((b : BlockRecord) → block_keys (F b) ≡ block_keys b) → flat_map block_keys (change_block n F bs) ≡ flat_map block_keys bs
 unfolding change_block
 changed n F [] same = refl
-changed n F (b ∷ bs) same = by (b.id == n)
+changed n F (b ∷ bs) same = by (changed n F bs same) (b.id == n)
   where
-    by : (x : Bool) → flat_map block_keys (cond x (F b ∷ bs) (b ∷ change_block n F bs)) ≡ flat_map block_keys (b ∷ bs)
-    by true = flat_map-cons block_keys (F b) bs ∙ (ap (λ (ks : List Key). ks ++ flat_map block_keys bs) (same b) ∙ sym (flat_map-cons block_keys b bs))
-    by false = flat_map-cons block_keys b (change_block n F bs) ∙ (ap (λ (ks : List Key). block_keys b ++ ks) (changed n F bs same) ∙ sym (flat_map-cons block_keys b bs))
+    by : flat_map block_keys (change_block n F bs) ≡ flat_map block_keys bs → (x : Bool) → flat_map block_keys (cond x (F b ∷ bs) (b ∷ change_block n F bs)) ≡ flat_map block_keys (b ∷ bs)
+    by rest true = flat_map-cons block_keys (F b) bs ∙ (ap (λ (ks : List Key). ks ++ flat_map block_keys bs) (same b) ∙ sym (flat_map-cons block_keys b bs))
+    by rest false = flat_map-cons block_keys b (change_block n F bs) ∙ (ap (λ (ks : List Key). block_keys b ++ ks) rest ∙ sym (flat_map-cons block_keys b bs))
 
 split_keys : (f : FuncRecord) (from index : ℕ) → keys_of (split f from index) ≡ keys_of f
 split_keys f from index =

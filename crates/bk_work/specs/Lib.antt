@@ -5,6 +5,7 @@ pub mod Lowered
 pub mod Package
 pub mod Placed
 pub mod Refused
+pub mod Results
 pub mod Rounds
 pub mod Rules
 pub mod Run

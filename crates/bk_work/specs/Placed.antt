@@ -7,7 +7,7 @@ use Rattle.bk_work.specs.declared.items.Done.TheVariants.{Lowered, Ready, Refuse
 use Rattle.bk_work.specs.declared.refusals.Cause.{Cause}
 use Rattle.bk_work.specs.declared.refusals.Refusal.{Refusal}
 use Rattle.bk_work.specs.Package.{refusal}
-use Rattle.bk_work.specs.Rounds.{Entry, Item, Keys}
+use Rattle.bk_work.specs.Rounds.{Entry, Item}
 
 -- what is placed was there before, or is of an item of the function
 abbrev pub ArePlaced : List Item → List (Option Done) → List (Option Done) → Type 0

@@ -1,10 +1,14 @@
 // A package from its functions.
-ghost use Rattle.std.specs.Prelude.{◌≡◌, ◌≤◌, ℕ, [], map, IfErr, IfOk};
+ghost use Rattle.std.specs.Prelude.{◌≡◌, ◌<◌, ◌≤◌, ℕ, [], map, IfErr, IfOk};
+ghost use Rattle.bk_dump.specs.ClaimOrder.{IsClaimOrder};
 ghost use Rattle.bk_elf.specs.File.{file_of};
 ghost use Rattle.bk_link.specs.Conditions.{IsNamed};
 ghost use Rattle.bk_link.specs.Linked.{gathered};
+ghost use Rattle.bk_piece.specs.Rising.{rising};
 ghost use Rattle.bk_work.specs.Package.{AreFramed, AreFrames, IsCompiled, IsError, IsLinkError};
-ghost use Rattle.bk_work.specs.Rules.{rules_of};
+ghost use Rattle.bk_work.specs.Results.{AreFirstDone, AreSecondDone};
+ghost use Rattle.bk_work.specs.Rounds.{AreLowered, IsInClaimOrder};
+ghost use Rattle.bk_work.specs.Rules.{RulesRecord, rules_of};
 
 use crate::framing::Framed;
 use crate::outcomes::Outcomes;
@@ -14,7 +18,7 @@ use crate::rounds::Round;
 use crate::rules::Lists;
 use crate::run::whole_round;
 use bk_dump::claim_order;
-use bk_func::Package;
+use bk_func::{Memory, Package};
 use bk_io::Gate;
 use bk_link::{LinkError, is_linkable, link};
 use bk_ops::Target;
@@ -39,22 +43,63 @@ pub fn compile_package<R: Threads + Sync, G: Gate + Sync>(
     ensures made { IfOk result (λ bytes. IsCompiled pkg.now target extra.now bytes.items) }
     ensures cause { IfErr result (IsError pkg.now target extra.now) }
 {
-    let parts = u64::from(workers) + 1;
     let order = claim_order(alloc, pkg)?;
-    let (round, pass) = Round::first(alloc, pkg, target, extra, &order, parts)?;
-    let (items, _) = whole_round(rt, alloc, round, pass, workers, gate)?;
-    let firsts = Firsts::new(alloc, placed(empty(alloc, pkg.funcs.len())?, items)?)?;
-
+    let firsts = lower_all(rt, alloc, pkg, target, extra, &order, workers, gate)?;
     let left = firsts.left(alloc, &order)?;
-    let (round, pass) = Round::second(alloc, pkg, target, &firsts.lowered, &left, parts)?;
-    let (items, words) = whole_round(rt, alloc, round, pass, workers, gate)?;
-    let ends = Ends::new(alloc, placed(firsts.refused(alloc)?, items)?)?;
-
+    let (ends, words) = emit_all(rt, alloc, pkg, target, &firsts, &left, workers, gate)?;
     if ends.refusals.is_empty() {
         linked(alloc, pkg, target, &ends.pieces, &words)
     } else {
         Err(PackageError::Functions(ends.refusals))
     }
+}
+
+/// The whole first round: what is made of all functions, which the workers claim in this order.
+#[allow(clippy::too_many_arguments)]
+fn lower_all<R: Threads + Sync, G: Gate + Sync>(
+    rt: &R,
+    alloc: Global,
+    pkg: &Package,
+    target: Target,
+    extra: &[Rule],
+    order: &[u32],
+    workers: u32,
+    gate: &G,
+) -> Result<Firsts, Memory>
+    requires order { IsClaimOrder pkg.now.funcs order.now }
+    requires workers { 0 < workers }
+    ensures { IfOk result (λ it. AreFirstDone pkg.now target (rules_of target extra.now) it.lowered.items it.causes.items) }
+{
+    let parts = u64::from(workers) + 1;
+    let (round, pass) = Round::first(alloc, pkg, target, extra, order, parts)?;
+    let (items, _) = whole_round(rt, alloc, round, pass, workers, gate)?;
+    let slots = placed(empty(alloc, pkg.funcs.len())?, items)?;
+    Firsts::new(alloc, slots)
+}
+
+/// The whole second round: the code of the functions that are left, which the workers claim in this order, all functions that are
+/// refused, and the words of the cells.
+#[allow(clippy::too_many_arguments)]
+fn emit_all<R: Threads + Sync, G: Gate + Sync>(
+    rt: &R,
+    alloc: Global,
+    pkg: &Package,
+    target: Target,
+    firsts: &Firsts,
+    left: &[u32],
+    workers: u32,
+    gate: &G,
+) -> Result<(Ends, Vec<Vec<u64>>), Memory>
+    requires left { IsInClaimOrder pkg.now left.now }
+    requires lowered { (rules : RulesRecord) × AreLowered pkg.now target rules left.now firsts.now.lowered.items }
+    requires workers { 0 < workers }
+    ensures { IfOk result (λ r. AreSecondDone pkg.now target (rising left.now) firsts.now.lowered.items firsts.now.causes.items r.0.pieces.items r.0.refusals.items (map (λ w. w.items) r.1.items)) }
+{
+    let parts = u64::from(workers) + 1;
+    let (round, pass) = Round::second(alloc, pkg, target, &firsts.lowered, left, parts)?;
+    let (items, words) = whole_round(rt, alloc, round, pass, workers, gate)?;
+    let slots = placed(firsts.refused(alloc)?, items)?;
+    Ok((Ends::new(alloc, slots)?, words))
 }
 
 /// The object of pieces.

@@ -127,6 +127,7 @@ pub(crate) fn whole_round<R: Threads + Sync, G: Gate + Sync>(
     requires first { view pass ≡ sight (workers + 1) [] [] }
     requires parts { parts_in round.share ≡ workers + 1 }
     requires workers { 0 < workers }
+    ensures areas { IfOk result (λ r. vec_len r.1 ≡ 3) }
     ensures items { IfOk result (λ r. AreAll round.entry.pkg.now round.entry.target round.entry.job round.entry.order.now (words_of r.1) r.0.items) }
     ensures rule { IfOk result (λ r. (v : Sight) × MeetsRule (announced_for round.entry.job) (workers + 1) (core_state (length v.numbers % 2 ^ 64) (words_of r.1) (v ∷ []))) }
 {
