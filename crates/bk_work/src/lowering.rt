@@ -153,9 +153,7 @@ fn fitted(
     ensures cause { IfErr result (λ stop. IfRefused stop (IsUnfit pkg.now target lists.now.rules.halves func)) }
 {
     match target {
-        Target::Arm => {
-            in_halves(alloc, pkg, func, &lists.rules.halves, &lists.indexes.halves)
-        }
+        Target::Arm => { in_halves(alloc, pkg, func, &lists.rules.halves, &lists.indexes.halves) }
         Target::Riscv64 => Ok(func),
     }
 }

@@ -72,13 +72,7 @@ impl<'a> Round<'a> {
     }
 
     /// Does the job on the function at a place of the package.
-    fn done(
-        &self,
-        alloc: Global,
-        pass: &mut Pass,
-        lists: &Lists,
-        func: u32,
-    ) -> Result<Done, Memory>
+    fn done(&self, alloc: Global, pass: &mut Pass, lists: &Lists, func: u32) -> Result<Done, Memory>
         requires rules { AreRules self.now.target self.now.job lists.now }
         requires pass { IsPassOf self.now.share pass.old }
         ensures pass { IsPassOf self.now.share pass.new }
