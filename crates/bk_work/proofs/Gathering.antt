@@ -12,7 +12,7 @@ use Rattle.bk_ops.specs.declared.types.Target.{Target}
 use Rattle.bk_piece.specs.declared.Key.{Key}
 use Rattle.bk_piece.specs.Filled.{area, key_at}
 use Rattle.bk_piece.specs.Pieces.{PieceRecord}
-use Rattle.bk_piece.specs.Rising.{Rise, full, keys_in, rising}
+use Rattle.bk_piece.specs.Rising.{Rise, full, keys_in}
 use Rattle.bk_piece.proofs.Elements.{has_cases, has_here, has_none, has_there}
 use Rattle.bk_piece.proofs.Full.{from_full, has_full}
 use Rattle.bk_piece.proofs.Rising.{from_rising, in_rising, same_rising}

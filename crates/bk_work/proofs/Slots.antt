@@ -7,7 +7,6 @@ use Rattle.bk_work.specs.declared.items.Done.{Done}
 use Rattle.bk_work.specs.declared.items.Done.TheVariants as done
 use Rattle.bk_work.specs.declared.refusals.Cause.{Cause}
 use Rattle.bk_work.specs.declared.refusals.Refusal.{Refusal}
-use Rattle.bk_work.specs.Each.{more}
 use Rattle.bk_work.specs.Package.{refusal}
 use Rattle.bk_work.specs.Placed.{AreEnds, AreFirsts, ArePlaced, no_ends, no_firsts, lowered, ready, refused_end, stopped}
 use Rattle.bk_work.specs.Rounds.{Entry, Item}

@@ -1,5 +1,4 @@
 use Rattle.std.proofs.Common.{◌∙◌, ap, refl}
-use Rattle.bk_work.specs.Refused.{IsNarrowed}
 use Rattle.bk_work.specs.Rules.{RulesRecord}
 use Rattle.bk_work.proofs.Steps.{AreBefore, IsEarly, all_steps, generic_fails, halves_fail, lacks_code, machine_fails, narrowed, stopped, words_fail}
 use Rattle.bk_work.proofs.lowering.lowered.Goals as goal
