@@ -14,7 +14,7 @@ use Rattle.bk_rewrite.specs.Passes.{Applies, Exceeds, Tries}
 use Rattle.bk_rewrite_laws.specs.Numbered.{IsRuleNumbered, RulesNumbered}
 use Rattle.bk_rewrite_laws.proofs.Matching.{same_bindings}
 
-some_same : {A : Type 0} (o : Option A) (x y : A) → o ≡ Some x → o ≡ Some y → x ≡ y
+pub some_same : {A : Type 0} (o : Option A) (x y : A) → o ≡ Some x → o ≡ Some y → x ≡ y
 some_same o x y e h = (let q : Some x ≡ Some y = sym e ∙ h in cc)
 
 numbered_at : (rules : List Rule) (k : ℕ) (r : Rule) → RulesNumbered rules → slice_get rules k ≡ Some r → IsNumbered 0 r.left

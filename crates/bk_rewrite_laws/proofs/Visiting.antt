@@ -17,10 +17,7 @@ use Rattle.bk_rewrite.specs.Passes.{with_value, looked_through, with_looked_thro
 use Rattle.bk_rewrite.proofs.Kept.{Edit, NumberedFrom, edited, edited_count, edited_numbers, numbered_inner, numbered_none}
 use Rattle.bk_rewrite.proofs.Turns.{looked_stands}
 use Rattle.bk_rewrite_laws.specs.Numbered.{RulesNumbered}
-use Rattle.bk_rewrite_laws.proofs.Firsts.{same_tries, exceeded}
-
-some_same : {A : Type 0} (o : Option A) (x y : A) → o ≡ Some x → o ≡ Some y → x ≡ y
-some_same o x y e h = (let q : Some x ≡ Some y = sym e ∙ h in cc)
+use Rattle.bk_rewrite_laws.proofs.Firsts.{some_same, same_tries, exceeded}
 
 -- ---- what an edit keeps
 -- the numbers stand once, and values are no fewer

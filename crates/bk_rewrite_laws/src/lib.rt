@@ -10,7 +10,19 @@ ghost use Rattle.bk_rule.specs.Match.{IsMatch};
 ghost use Rattle.bk_rewrite.specs.First.{IsFirst};
 ghost use Rattle.bk_rewrite.specs.Passes.{Changes, IsPass, Outgrows, Settles, Visits};
 ghost use Rattle.bk_rewrite.specs.Places.{count_values, value_limit, HasNumbers};
+ghost use Rattle.bk_rules_arm.specs.Lines.{arm_list};
+ghost use Rattle.bk_rules_dec64.specs.Lines.{dec64_list};
+ghost use Rattle.bk_rules_generic.specs.Lines.{generic_list};
+ghost use Rattle.bk_rules_rv.specs.Lines.{rv_list};
 ghost use Rattle.bk_rewrite_laws.specs.Numbered.{IsRuleNumbered, RulesNumbered};
+
+/// A law: in each of the four lists the variables of rules are numbered in order.
+pub fn lists_are_numbered()
+    ensures generic { RulesNumbered generic_list }
+    ensures dec64 { RulesNumbered dec64_list }
+    ensures arm { RulesNumbered arm_list }
+    ensures rv { RulesNumbered rv_list }
+{}
 
 /// A law: with its arguments in given orders, a rule matches at a value under one list of bindings.
 pub fn orders_tell_bindings()
