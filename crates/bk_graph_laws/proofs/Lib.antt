@@ -1,0 +1,9 @@
+pub mod Agreeing
+pub mod Cleaning
+pub mod Edges
+pub mod Few
+pub mod Forming
+pub mod Paths
+pub mod Settled
+pub mod Sources
+pub mod Tabled
