@@ -6,3 +6,4 @@ pub mod Named
 pub mod Told
 pub mod Refusing
 pub mod Reading
+pub mod Generated

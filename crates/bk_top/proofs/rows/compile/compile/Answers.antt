@@ -2,8 +2,8 @@ use Rattle.std.proofs.Common.{get_or, arith}
 use Rattle.bk_top.proofs.Reading.{shorter}
 use Rattle.bk_top.proofs.rows.compile.compile.Goals as goal
 
-pub compile_package-requires : goal.compile_package-requires
-compile_package-requires c =
+pub object_of-requires-clause-named : goal.object_of-requires-clause-named
+object_of-requires-clause-named c =
     let p = c.in_ok-pkg.pkg in
     let has = c.names_of_texts.ensures.named c.args.text.now p c.in_ok-pkg.ensures.read.0 in
     record {
