@@ -7,3 +7,4 @@ pub mod Told
 pub mod Refusing
 pub mod Reading
 pub mod Generated
+pub mod Objects

@@ -16,7 +16,6 @@ use std::alloc::{AllocError, Global};
 use std::thread::Threads;
 
 /// The line that measures a generated package and its object.
-#[tactic(auto, using(crate::proofs::Generated::generated_is_named))]
 pub fn load<R: Threads + Sync, G: Gate + Sync>(
     rt: &R,
     alloc: Global,
