@@ -1,5 +1,5 @@
 -- What is made of a package: each function alone, in package order.
-use Rattle.std.specs.Prelude.{◌≡◌, ℕ, ◌+◌, ◌<◌, ◌==◌, List, [], ◌∷◌, map, filter, flat_map}
+use Rattle.std.specs.Prelude.{◌≡◌, ℕ, ◌+◌, ◌<◌, ◌≤◌, ◌==◌, List, [], ◌∷◌, map, filter, flat_map}
 use Rattle.bk_ops.specs.declared.types.Target.{Target}
 use Rattle.bk_ops.specs.declared.types.Target.TheVariants.{Arm, Riscv64}
 use Rattle.bk_func.specs.Limits.{most_text}
@@ -76,12 +76,17 @@ pub record ArePieces (pkg : PackageRecord) (t : Target) (rules : RulesRecord) (p
   pub cells : words ≡ words_of (map (λ it. keys_of it.func) framed)
   pub code : Each (IsCode t words) framed pieces
 
+-- the bytes are the object of these pieces, whose text and pool are not too long
+pub record IsObjectOf (pkg : PackageRecord) (t : Target) (pieces : List PieceRecord) (words : List (List ℕ)) (bytes : List ℕ) : Type 0 where
+  pub file : bytes ≡ file_of (gathered pkg t pieces words)
+  pub within : code_size pieces (keys_in (area words 2)) ≤ most_text
+
 -- the bytes are the object of the package
 pub record IsCompiled (pkg : PackageRecord) (t : Target) (extra : List Rule) (bytes : List ℕ) : Type 0 where
   pub pieces : List PieceRecord
   pub words : List (List ℕ)
   pub made : ArePieces pkg t (rules_of t extra) pieces words
-  pub linked : bytes ≡ file_of (gathered pkg t pieces words)
+  pub linked : IsObjectOf pkg t pieces words bytes
 
 -- text and pool of the package would have so many bytes, which are more than they may
 pub record IsTooLong (pkg : PackageRecord) (t : Target) (extra : List Rule) (bytes : ℕ) : Type 0 where

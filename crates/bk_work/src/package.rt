@@ -1,11 +1,9 @@
 // A package from its functions.
 ghost use Rattle.std.specs.Prelude.{◌≡◌, ◌<◌, ◌≤◌, ℕ, [], map, IfErr, IfOk};
 ghost use Rattle.bk_dump.specs.ClaimOrder.{IsClaimOrder};
-ghost use Rattle.bk_elf.specs.File.{file_of};
 ghost use Rattle.bk_link.specs.Conditions.{IsNamed};
-ghost use Rattle.bk_link.specs.Linked.{gathered};
 ghost use Rattle.bk_piece.specs.Rising.{rising};
-ghost use Rattle.bk_work.specs.Package.{AreFramed, AreFrames, IsCompiled, IsError, IsLinkError};
+ghost use Rattle.bk_work.specs.Package.{AreFramed, AreFrames, IsCompiled, IsError, IsLinkError, IsObjectOf};
 ghost use Rattle.bk_work.specs.Results.{AreFirstDone, AreSecondDone};
 ghost use Rattle.bk_work.specs.Rounds.{AreLowered, IsInClaimOrder};
 ghost use Rattle.bk_work.specs.Rules.{RulesRecord, rules_of};
@@ -111,7 +109,7 @@ fn linked(
     words: &[Vec<u64>],
 ) -> Result<Vec<u8>, PackageError>
     requires { IsNamed pkg.now }
-    ensures made { IfOk result (λ bytes. bytes.items ≡ file_of (gathered pkg.now target pieces.now (map (λ w. w.items) words.now))) }
+    ensures made { IfOk result (λ bytes. IsObjectOf pkg.now target pieces.now (map (λ w. w.items) words.now) bytes.items) }
     ensures cause { IfErr result (IsLinkError pieces.now (map (λ w. w.items) words.now)) }
 {
     // A package's variables fit the window, pieces have code and types, and their handles have cells.

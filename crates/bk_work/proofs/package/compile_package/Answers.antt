@@ -6,10 +6,8 @@ use Rattle.std.specs.List.{filter}
 use Rattle.std.proofs.lemmas.Bool.{eq-eqb, eqb-true, false≢true}
 use Rattle.std.proofs.lemmas.List.{nil_from_length}
 use Rattle.bk_core.specs.Events.{words_of}
-use Rattle.bk_elf.specs.File.{file_of}
-use Rattle.bk_link.specs.Linked.{gathered}
 use Rattle.bk_piece.specs.Pieces.{PieceRecord}
-use Rattle.bk_work.specs.Package.{IsLinkError}
+use Rattle.bk_work.specs.Package.{IsLinkError, IsObjectOf}
 use Rattle.bk_work.specs.Placed.{is_open}
 use Rattle.bk_work.specs.Rules.{rules_of}
 use Rattle.bk_work.proofs.Linking.{compiled, link_fails}
@@ -35,8 +33,8 @@ returns-then-is_empty g c =
     let row : Vec ℕ Global → List ℕ = λ w. w.items in
     let r = c.linked.result in let given = c.deref-then-is_empty in let cells = c.deref-then-is_empty-2 in record {
       made = compiled (λ bytes. bytes.items) r pkg t extra pieces words serial
-          (subst (λ (ws : List (Vec ℕ Global)). IfOk r (λ bytes. bytes.items ≡ file_of (gathered pkg t pieces (map row ws)))) cells.ensures.value
-          (subst (λ (ps : List PieceRecord). IfOk r (λ bytes. bytes.items ≡ file_of (gathered pkg t ps (map row cells.result.now)))) given.ensures.value c.linked.ensures.made));
+          (subst (λ (ws : List (Vec ℕ Global)). IfOk r (λ bytes. IsObjectOf pkg t pieces (map row ws) bytes.items)) cells.ensures.value
+          (subst (λ (ps : List PieceRecord). IfOk r (λ bytes. IsObjectOf pkg t ps (map row cells.result.now) bytes.items)) given.ensures.value c.linked.ensures.made));
       cause = link_fails r pkg t extra pieces words serial
           (subst (λ (ws : List (Vec ℕ Global)). IfErr r (IsLinkError pieces (map row ws))) cells.ensures.value
           (subst (λ (ps : List PieceRecord). IfErr r (IsLinkError ps (map row cells.result.now))) given.ensures.value c.linked.ensures.cause));
