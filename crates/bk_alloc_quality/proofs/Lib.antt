@@ -1,0 +1,4 @@
+pub mod Blocks
+pub mod Homeless
+pub mod Room
+pub mod Steps
