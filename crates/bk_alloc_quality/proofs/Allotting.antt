@@ -1,19 +1,19 @@
 -- All blocks of a function, one after the other.
-use Rattle.std.proofs.Common.{◌≡◌, ℕ, zero, suc, ◌+◌, ◌<◌, ◌≤◌, refl, ap, sym, ◌∙◌, subst, arith, ◌⊎◌, inl, inr, List, [], ◌∷◌, ◌++◌, length, Option, Some, None, Bool, true, false, cond, ◌==◌, map, replicate, get_or, eq-eqb, eqb-true, append_assoc}
+use Rattle.std.proofs.Common.{◌≡◌, ℕ, zero, suc, ◌+◌, ◌<◌, ◌≤◌, refl, ap, sym, ◌∙◌, subst, arith, ◌⊎◌, inl, inr, List, [], ◌∷◌, ◌++◌, length, Option, Some, None, Bool, true, false, cond, map, replicate, get_or, eqb-true}
 use Rattle.std.specs.List.{Contains, AllByRecursion, find, fold}
 use Rattle.std.proofs.lemmas.Cmp.{nat_eq_equiv}
 use Rattle.std.proofs.lemmas.List.{length-replicate}
-use Rattle.std.proofs.lemmas.List.Elements.{Contains-append_left, Contains-append_right, Contains-push}
+use Rattle.std.proofs.lemmas.List.Elements.{Contains-append_right}
 use Rattle.std.proofs.lemmas.Map.Views.{Contains-from_any, list_any-from_Contains}
 use Rattle.bk_alloc.specs.declared.acts.Role.{Role}
 use Rattle.bk_alloc.specs.declared.acts.Role.TheVariants.{Plain, Taken, Calls, Leaves}
-use Rattle.bk_alloc.specs.Registers.{Registers, Uses, holds}
-use Rattle.bk_alloc.specs.Tasks.{TaskRecord, ActRecord, after_role, after_task}
-use Rattle.bk_alloc.specs.Blocks.{Next, PartRecord, PlanRecord, allot, before_plan, begun, behind, controls, first_map, is_before, last_map, last_or_none, part_of, phis_of, with_part}
+use Rattle.bk_alloc.specs.Registers.{Registers, Uses}
+use Rattle.bk_alloc.specs.Tasks.{TaskRecord, after_task}
+use Rattle.bk_alloc.specs.Blocks.{Next, PartRecord, PlanRecord, allot, before_plan, behind, controls, first_map, is_before, last_map, last_or_none, part_of, phis_of, with_part}
 use Rattle.bk_alloc_laws.proofs.Holding.{length-with_loads}
 use Rattle.bk_alloc_laws.proofs.Whole.{length-tasks}
 use Rattle.bk_alloc_quality.specs.Pressure.{ArePressed, AreQuiet, IsQuietAs, IsUsed, IsFlow, HoldsLive, HoldsStart, LoadsNothing, live}
-use Rattle.bk_alloc_quality.specs.Flows.{AreFlows, AreLed, HasBefore, IsBrought, IsCalm, IsCalmAs, IsFirst, IsLow, IsNext}
+use Rattle.bk_alloc_quality.specs.Flows.{AreFlows, AreLed, IsBrought, IsCalmAs, IsFirst, IsLow, IsNext}
 use Rattle.bk_alloc_quality.proofs.Blocks.{block_stays, start_holds, start_size}
 use Rattle.bk_alloc_quality.proofs.Steps.{all_append}
 

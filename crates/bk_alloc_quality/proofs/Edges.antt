@@ -1,10 +1,9 @@
 -- Over an edge registers go to registers.
-use Rattle.std.proofs.Common.{◌≡◌, ℕ, zero, suc, ◌+◌, ◌<◌, refl, ap, sym, ◌∙◌, subst, arith, ◌⊎◌, inl, inr, List, [], ◌∷◌, ◌++◌, length, Option, Some, None, Bool, true, false, cond, ◌==◌, map, get_or, eq-eqb, ne_eqb, eqb-true}
+use Rattle.std.proofs.Common.{◌≡◌, ℕ, zero, suc, refl, ap, sym, ◌∙◌, subst, arith, ◌⊎◌, inl, inr, List, [], ◌∷◌, ◌++◌, Option, Some, None, Bool, true, cond, ◌==◌, map, get_or, ne_eqb}
 use Rattle.std.specs.Prelude.{flat_map}
 use Rattle.std.specs.List.{Contains, AllByRecursion, find}
 use Rattle.std.proofs.lemmas.List.Elements.{Contains-append_right}
 use Rattle.bk_func.specs.declared.parts.Loc.{Loc}
-use Rattle.bk_func.specs.declared.parts.Loc.TheVariants.{Reg, Slot, Swap}
 use Rattle.bk_shuffle.specs.Sequence.{Move}
 use Rattle.bk_alloc.specs.Registers.{Registers, holds}
 use Rattle.bk_alloc.specs.Blocks.{Next, PartRecord, PhiRecord, PlanRecord, edge_from, in_slot, moves_into, phis_of, register_moves, slot_move, slot_phis, source_at, source_by, source_of}

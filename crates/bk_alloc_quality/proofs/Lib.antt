@@ -4,3 +4,4 @@ pub mod Edges
 pub mod Homeless
 pub mod Room
 pub mod Steps
+pub mod Whole

@@ -1,7 +1,7 @@
 -- How next uses run from block to block of a function, whose blocks are listed as they are laid out.
-use Rattle.std.specs.Prelude.{◌≡◌, ◌⊎◌, ℕ, ◌≤◌, ◌==◌, Bool, true, false, List, [], ◌∷◌, ◌++◌, length, replicate, None}
+use Rattle.std.specs.Prelude.{◌≡◌, ◌⊎◌, ℕ, ◌≤◌, ◌==◌, false, List, [], ◌∷◌, ◌++◌, length, replicate, None}
 use Rattle.std.specs.List.{Contains, position_or_len}
-use Rattle.bk_func.specs.Records.{StepRecord, load, store, do_value, move}
+use Rattle.bk_func.specs.Records.{StepRecord, load, store}
 use Rattle.bk_alloc.specs.declared.acts.Role.{Role}
 use Rattle.bk_alloc.specs.declared.acts.Role.TheVariants.{Plain, Taken, Calls, Leaves}
 use Rattle.bk_alloc.specs.Registers.{Uses}
