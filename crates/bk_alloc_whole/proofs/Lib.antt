@@ -1,2 +1,4 @@
 pub mod Alone
+pub mod Flowing
 pub mod Walking
+pub mod Words
