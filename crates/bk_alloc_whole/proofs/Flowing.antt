@@ -41,7 +41,7 @@ get_past [] ys m j e = ap (λ (k : ℕ). slice_get (ids ys) k) (omega arith)
 get_past (p ∷ pre) ys zero j e = absurd (omega arith)
 get_past (p ∷ pre) ys (suc m) j e = get_past pre ys m j (omega arith)
 
-length-ids : (vs : List ValueRecord) → length (ids vs) ≡ length vs
+pub length-ids : (vs : List ValueRecord) → length (ids vs) ≡ length vs
 length-ids [] = refl
 length-ids (v ∷ vs) = ap suc (length-ids vs)
 
@@ -58,7 +58,7 @@ entry f os next i b ps ts pre us m j x h w e g =
 
 -- tasks are passed
 
-values_ids : (word : ℕ → Bool) (us : List ValueRecord) → values_of (map (task_of word) us) ≡ ids us
+pub values_ids : (word : ℕ → Bool) (us : List ValueRecord) → values_of (map (task_of word) us) ≡ ids us
 values_ids word [] = refl
 values_ids word (u ∷ us) = ap (λ (l : List ℕ). u.id ∷ l) (values_ids word us)
 
@@ -119,3 +119,18 @@ back f os next i b ps ts pre (q ∷ qs) us v m h w e l =
     (λ (other : q.id ≡ v → ⊥). let r : IsLive f os v i (length pre + 1) = subst (λ (k : ℕ). IsLive f os v i k) (one_more pre q) live in inr (_, pass i (length pre) q.id r.0 at other r.1))
     (cases_eq q.id v))
     (back f os next i b ps ts (pre ++ q ∷ []) qs us v m h more (omega (arith, one_more pre q)) l)
+
+-- none comes twice
+
+pub apart_from : (f : FuncRecord) (os : List (List ℕ)) (next : Next) (i : ℕ) (b : BlockRecord) (ps ts pre us : List ValueRecord) → Lies f os next i b ps ts → ps ++ ts ≡ pre ++ us → AreApart (ids us)
+apart_from f os next i b ps ts pre [] h w = tt
+apart_from f os next i b ps ts pre (u ∷ us) h w =
+    let k = length pre in
+    let more : ps ++ ts ≡ (pre ++ u ∷ []) ++ us = w ∙ sym (append_assoc pre (u ∷ []) us) in (
+      λ c. (let j = in_at us u.id (to_in u.id (ids us) c) in
+      let e : IsEntry os i k u.id = entry f os next i b ps ts pre (u ∷ us) k 0 u.id h w (omega arith) refl in
+      let d : IsEntry os i (k + suc j.0) u.id = entry f os next i b ps ts pre (u ∷ us) (k + suc j.0) (suc j.0) u.id h w refl j.1 in
+      let q = (entry_alone f os h.ordered i i k (k + suc j.0) u.id e d).1 in
+      omega (arith, q)),
+      apart_from f os next i b ps ts (pre ++ u ∷ []) us h more,
+    )

@@ -1,4 +1,5 @@
 pub mod Alone
+pub mod Beginning
 pub mod Flowing
 pub mod Walking
 pub mod Words
