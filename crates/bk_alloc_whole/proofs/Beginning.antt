@@ -2,11 +2,12 @@
 use Rattle.std.proofs.Common.{◌≡◌, ◌∙◌, sym, refl, ap, subst, ℕ, zero, suc, ◌+◌, ◌<◌, ◌≤◌, ◌==◌, ◌⊎◌, inl, inr, ⊎_elim, Bool, true, false, cond, not, List, [], ◌∷◌, ◌++◌, length, map, Option, Some, None, arith}
 use Rattle.std.specs.Prelude.{filter, count_by, sum_by, IfSome}
 use Rattle.std.specs.List.{Contains, slice_get}
-use Rattle.std.proofs.lemmas.Bool.{and_from, and_parts, cases_lt, false≢true, eqb-true, not_from_true, not_from_false, false_from_ne_true}
+use Rattle.std.proofs.lemmas.Bool.{MatchBool-at_true, MatchBool-at_false, cases_Bool, and_from, and_parts, cases_lt, false≢true, eqb-true, not_from_true, not_from_false, false_from_ne_true}
 use Rattle.std.proofs.lemmas.List.{length-append, length-map}
+use Rattle.std.proofs.lemmas.List.Elements.{Contains-append_right}
 use Rattle.std.proofs.lemmas.List.Sums.{sum_by-cons}
 use Rattle.std.proofs.lemmas.Option.{same_Some, none-some}
-use Rattle.bk_ops.specs.Families.{is_phi}
+use Rattle.bk_ops.specs.Families.{is_nil_check, is_phi}
 use Rattle.bk_ops.specs.declared.family.Family.{Family}
 use Rattle.bk_ops.specs.declared.family.Family.TheVariants as op
 use Rattle.bk_ops.specs.declared.types.Target.{Target}
@@ -183,6 +184,57 @@ data_word s ty.Void d = absurd (d refl)
 data_word s ty.Tuple d = absurd (d refl)
 data_word s _ d = refl
 
-truth_by : (s : Setting) (x : Ty) (b : Bool) → s.loose ≡ b → FitsTruth s x → has_word_of x ≡ true
-truth_by s x true e h = ?
-truth_by s x false e h = ?
+truth_word : (s : Setting) (x : Ty) → FitsTruth s x → has_word_of x ≡ true
+truth_word s x h = ⊎_elim
+    (λ (e : s.loose ≡ true). data_word s x (MatchBool-at_true (IsData s x) (x ≡ ty.Bool) e h))
+    (λ (e : s.loose ≡ false). ap has_word_of (MatchBool-at_false (IsData s x) (x ≡ ty.Bool) e h))
+    (cases_Bool s.loose)
+
+sum_found : {A : Type 0} (g : A → ℕ) (xs : List A) → 1 ≤ sum_by g xs → (x : A) × Contains xs x × 1 ≤ g x
+sum_found g [] l = absurd (omega arith)
+sum_found {A} g (y ∷ ys) l = ⊎_elim
+    (λ (k : 0 < g y). (y, (0, omega arith, refl), omega arith))
+    (λ (k : g y ≤ 0). let r = sum_found g ys (omega (arith, sum_by-cons g y ys)) in (r.0, Contains-append_right (y ∷ []) ys r.0 r.1, r.2))
+    (cases_lt 0 (g y))
+
+-- the value with a number
+pub numbered : (f : FuncRecord) (n : ℕ) → IsValueNumber f n → (b : BlockRecord) × (v : ValueRecord) × HasValue f b v × (v.id ≡ n)
+unfolding IsValueNumber
+numbered f n h =
+    let (b, hb, l) = sum_found (λ (b : BlockRecord). count_by (λ (v : ValueRecord). v.id == n) b.values) f.blocks (omega arith) in
+    let (j, v, at, e) = counted_there (λ (v : ValueRecord). v.id == n) b.values l in
+    (b, v, (hb, contains_at b.values j v at), eqb-true v.id n e)
+
+control_is : (t : Target) (f : FuncRecord) (os : List (List ℕ)) (next : Next) (i : ℕ) (b : BlockRecord) (ps ts : List ValueRecord) → IsCallFree t f → Lies f os next i b ps ts → (c : ℕ)
+    → Contains (controls (control_of b.kind b.control)) c → Contains (words_of f) c × IsUsed (next b.id (length (order_at os i))) c
+control_is t f os next i b ps ts free h c k =
+    let hb : HasBlock f b = contains_at f.blocks i b h.at in
+    let (kind, is) = control_parts b.kind b.control c k in
+    let (d, v, hv, e) = numbered f c (subst (λ (o : Option ℕ). IfSome o (IsValueNumber f)) is (h.ordered.formed.kinds Missing b hb).block.control) in
+    let own : b.control ≡ Some v.id = is ∙ ap Some (sym e) in
+    let s = h.ordered.setting in
+    let fits : FitsControl s f v If = subst (λ (q : Kind). FitsControl s f v q) kind ((h.ordered.formed.kinds Typed b hb).block d v hv own) in
+    let word : has_word v ≡ true = and_from (has_word_of v.ty) (not (is_nil_check v.op.family)) (truth_word s v.ty fits.1) (not_from_false (is_nil_check v.op.family) (free.controls b d v hb hv own)) in (
+      subst (λ (m : ℕ). Contains (words_of f) m) e (in_words f d v hv word),
+      used_of f os next h.uses i (length (order_at os i)) c b h.at (omega arith) (1, here i (length (order_at os i)) (inr (refl, (b, h.at, inl is)))),
+    )
+
+-- the whole block
+
+pub flows : (t : Target) (f : FuncRecord) (os : List (List ℕ)) (next : Next) (i : ℕ) (b : BlockRecord) (ps ts : List ValueRecord) → IsCallFree t f → Lies f os next i b ps ts
+    → IsFlow (words_of f) (next b.id) (plan_with (is_word f.blocks) b (order_at os i) (ps ++ ts))
+flows t f os next i b ps ts free h =
+    let zs = ps ++ ts in
+    let word = is_word f.blocks in
+    let count : count_by is_phi_value zs ≡ length ps = counted_phis ps ts h.phis h.rest in
+    let rest : filter is_scheduled zs ≡ ts = scheduled_rest ps ts h.phis h.rest in
+    let size = order_length f os next i b ps ts h in
+    record {
+      begun = begins f os next i b ps ts h;
+      passed = subst (λ (l : List ValueRecord). ArePassed (words_of f) (next b.id) (count_by is_phi_value zs) (map (task_of word) l)) (sym rest)
+          (subst (λ (k : ℕ). ArePassed (words_of f) (next b.id) k (map (task_of word) ts)) (sym count) (passed_from f os next i b ps ts ps ts h refl h.rest));
+      size =
+          let a : length (map (task_of word) (filter is_scheduled zs)) ≡ length ts = length-map (filter is_scheduled zs) (task_of word) ∙ ap length rest in
+          omega (arith, a, count, size);
+      control = control_is t f os next i b ps ts free h;
+    }
