@@ -1,7 +1,7 @@
 -- Functions whose values all find registers.
 use Rattle.std.specs.Prelude.{◌≡◌, ℕ, ◌+◌, ◌<◌, ◌≤◌, Bool, true, false, List, length, filter, map, Some, ◌⊎◌}
 use Rattle.std.specs.List.{Contains, flat_map, slice_get}
-use Rattle.bk_ops.specs.Families.{is_nil_check, is_word_call}
+use Rattle.bk_ops.specs.Families.{is_nil_check, is_word_call, is_word_result}
 use Rattle.bk_ops.specs.declared.family.Family.TheVariants as op
 use Rattle.bk_ops.specs.declared.types.Target.{Target}
 use Rattle.bk_func.specs.declared.parts.Kind.TheVariants.{If}
@@ -35,10 +35,10 @@ TakesWord v = v.op.family ≡ op.ArgReg
 abbrev pub HasFewLive : Target → Next → FuncRecord → List (List ℕ) → Type 0
 HasFewLive t next f orders = (b : PlanRecord) → Contains (laid_out f.blocks (layout_of f) orders) b → IsLow (length (registers_of t)) (words_of f) (next b.id) b
 
--- what a lowered function without calls has: no value is a call; words that were passed in registers are taken in the entry, each
+-- what a lowered function without calls has: no value is a call or a result of one; words that were passed in registers are taken in the entry, each
 -- by one value, and find a register of their own; a nil check is no phi's argument and no control
 pub record IsCallFree (t : Target) (f : FuncRecord) : Type 0 where
-  pub calls : (b : BlockRecord) (v : ValueRecord) → HasValue f b v → is_word_call v.op.family ≡ false
+  pub calls : (b : BlockRecord) (v : ValueRecord) → HasValue f b v → (is_word_call v.op.family ≡ false) × (is_word_result v.op.family ≡ false)
   pub entry : (b : BlockRecord) (v : ValueRecord) → HasValue f b v → TakesWord v → IsEntry f b
   pub once : (b c : BlockRecord) (u v : ValueRecord) → HasValue f b u → HasValue f c v → TakesWord u → TakesWord v → natural u.int ≡ natural v.int → u.id ≡ v.id
   pub few : (b : BlockRecord) (v : ValueRecord) → HasValue f b v → TakesWord v → passing (natural v.int) < length (registers_of t)
