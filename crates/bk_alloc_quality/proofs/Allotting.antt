@@ -87,7 +87,7 @@ part_settles words next count all b before inside f few size h q =
 
 -- empty registers hold nothing
 
-nothing_held : (count q v : ℕ) → get_or {A = Option ℕ} (replicate count None) q None ≡ Some v → ⊥
+pub nothing_held : (count q v : ℕ) → get_or {A = Option ℕ} (replicate count None) q None ≡ Some v → ⊥
 nothing_held zero q v e = absurd cc
 nothing_held (suc n) zero v e = absurd cc
 nothing_held (suc n) (suc q) v e = nothing_held n q v e

@@ -44,19 +44,26 @@ record Source (xs : List ValueRecord) (k v : ℕ) : Type 0 where
   id : value.id ≡ v
   is : source_of (map phi_of xs) k v ≡ slice_index value.args k
 
+source_case : (x : ValueRecord) (xs : List ValueRecord) (k v : ℕ) → (In v (ids xs) → Source xs k v) → (x.id ≡ v) ⊎ (x.id ≡ v → ⊥) → In v (ids (x ∷ xs)) → Source (x ∷ xs) k v
+source_case x xs k v r (inl e) j = record {
+  value = x;
+  there = inl refl;
+  id = e;
+  is = ap (λ (b : Bool). source_by (cond b (Some (phi_of x)) (find (λ (p : PhiRecord). p.value == v) (map phi_of xs))) k v) (eq-eqb x.id v e);
+}
+source_case x xs k v r (inr n) (inl e) = absurd (n e)
+source_case x xs k v r (inr n) (inr j) =
+    let q = r j in
+    record {
+      value = q.value;
+      there = inr q.there;
+      id = q.id;
+      is = ap (λ (b : Bool). source_by (cond b (Some (phi_of x)) (find (λ (p : PhiRecord). p.value == v) (map phi_of xs))) k v) (ne_eqb x.id v n) ∙ q.is;
+    }
+
 source_in : (xs : List ValueRecord) (k v : ℕ) → In v (ids xs) → Source xs k v
 source_in [] k v i = elim i [ ]
-source_in (x ∷ xs) k v i = go (cases_eq x.id v) i
-  where
-    go : (x.id ≡ v) ⊎ (x.id ≡ v → ⊥) → In v (ids (x ∷ xs)) → Source (x ∷ xs) k v
-    go (inl e) j = record {
-      value = x;
-      there = inl refl;
-      id = e;
-      is = ap (λ (b : Bool). source_by (cond b (Some (phi_of x)) (find (λ (p : PhiRecord). p.value == v) (map phi_of xs))) k v) (eq-eqb x.id v e);
-    }
-    go (inr n) (inl e) = absurd (n e)
-    go (inr n) (inr j) = ?
+source_in (x ∷ xs) k v i = source_case x xs k v (source_in xs k v) (cases_eq x.id v) i
 
 first_place : (ns : List ℕ) (n : ℕ) → Contains ns n → slice_get ns (position_or_len (λ m. m == n) ns) ≡ Some n
 first_place ns n c =
@@ -119,9 +126,9 @@ edge_brings t f os next free g i j a b ps ts qs us la lb succ =
           let inside : Contains z.args x = contains_at z.args k x arg in
           let (d, u, hu, id) = numbered f x (All-contains (IsValueNumber f) z.args x ((form.kinds Missing b hb).value z hz.1).args inside) in
           let fits = phi_slot s f z u z.op.family k (((form.kinds Typed b hb).value z hz.1).args k d u hu (arg ∙ ap Some (sym id))) phi in
-          let data = arg_word s f z u (and_parts (has_word_of z.ty) (not (is_nil_check z.op.family)) w).0 fits in
+          let full = arg_word s f z u (and_parts (has_word_of z.ty) (not (is_nil_check z.op.family)) w).0 fits in
           let check = free.phis b d u z hz phi hu (subst (λ (n : ℕ). Contains z.args n) (sym id) inside) in
-          let word : has_word u ≡ true = and_from (has_word_of u.ty) (not (is_nil_check u.op.family)) data (not_from_false (is_nil_check u.op.family) check) in
+          let word : has_word u ≡ true = and_from (has_word_of u.ty) (not (is_nil_check u.op.family)) full (not_from_false (is_nil_check u.op.family) check) in
           let known : Contains (words_of f) x = subst (λ (n : ℕ). Contains (words_of f) n) id (in_words f d u hu word) in
           let used = used_of f os next la.uses i end x a la.at (omega arith) (1, here i end (inr (refl, (a, la.at, inr (b, z, k, hz, phi, at, arg))))) in
           subst (λ (n : ℕ). Contains (words_of f) n × IsUsed (next a.id end) n) (sym r.is) (known, used);

@@ -31,7 +31,7 @@ pub data Laid (f : FuncRecord) : List ℕ → Type 0 where
 
 -- tests
 
-any_eq : (xs : List ℕ) (n : ℕ) → list_any (λ m. m == n) xs ≡ true → Contains xs n
+pub any_eq : (xs : List ℕ) (n : ℕ) → list_any (λ m. m == n) xs ≡ true → Contains xs n
 any_eq xs n e = (let (m, i, h) = any_in (λ (m : ℕ). m == n) xs e in to_contains n xs (subst (λ (k : ℕ). In k xs) (eqb-true m n h) i))
 
 eq_any_in : (xs : List ℕ) (n : ℕ) → In n xs → list_any (λ m. m == n) xs ≡ true

@@ -4,5 +4,7 @@ pub mod Edging
 pub mod Flowing
 pub mod Laying
 pub mod Planning
+pub mod Quieting
+pub mod Taking
 pub mod Walking
 pub mod Words
