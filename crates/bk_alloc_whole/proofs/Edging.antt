@@ -112,8 +112,8 @@ edge_brings t f os next free g i j a b ps ts qs us la lb succ =
           let m = live_of f os next lb.uses j 0 v b lb.at (omega arith) u in
           used_of f os next la.uses i end v a la.at (omega arith) (_, leave i j end m.0 refl (a, b, la.at, lb.at, succ) m.1);
       phis = λ v c.
-          let i : In v (ids (filter is_word_phi zs)) = subst (λ (l : List ℕ). In v l) (phi_ids (filter is_word_phi zs)) (to_in v (map (λ (p : PhiRecord). p.value) (map phi_of (filter is_word_phi zs))) c) in
-          let r = source_in (filter is_word_phi zs) k v i in
+          let named : In v (ids (filter is_word_phi zs)) = subst (λ (l : List ℕ). In v l) (phi_ids (filter is_word_phi zs)) (to_in v (map (λ (p : PhiRecord). p.value) (map phi_of (filter is_word_phi zs))) c) in
+          let r = source_in (filter is_word_phi zs) k v named in
           let z = r.value in
           let (iz, wp) = faults.in-filter is_word_phi z zs r.there in
           let (p, w) = and_parts (is_phi_value z) (has_word z) wp in

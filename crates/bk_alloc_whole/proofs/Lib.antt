@@ -3,6 +3,7 @@ pub mod Beginning
 pub mod Edging
 pub mod Flowing
 pub mod Laying
+pub mod Leading
 pub mod Planning
 pub mod Quieting
 pub mod Taking

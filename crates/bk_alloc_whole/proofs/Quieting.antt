@@ -89,7 +89,7 @@ calm_value t f os free o word b v hv n =
 
 -- words are taken one after the other
 
-takes_test : Family → Bool
+abbrev takes_test : Family → Bool
 takes_test op.ArgReg = true
 takes_test _ = false
 
@@ -108,7 +108,7 @@ abbrev IsAt : Registers → ValueRecord → Type 0
 IsAt rs v = (passing (natural v.int) < length rs) × (is_open (get_or rs (passing (natural v.int)) None) ≡ true)
 
 taken_quiet : (word : ℕ → Bool) (rs : Registers) (v : ValueRecord) → TakesWord v → has_word v ≡ true → IsAt rs v → IsQuietAs rs (task_of word v) (role_of v)
-taken_quiet word rs v e w at = subst (λ (g : Family). IsQuietAs rs (task_of word v) (role_by g (natural v.int))) (sym e) (w, at)
+taken_quiet word rs v e w at = subst (λ (g : Family). IsQuietAs rs (task_of word v) (role_by g (natural v.int))) (sym e) (w, at.0, at.1)
 
 still_open : (rs : Registers) (v u : ValueRecord) → ¬ (natural v.int ≡ natural u.int) → IsAt rs u → IsAt (put rs (passing (natural v.int)) v.id) u
 still_open rs v u n (l, o) = (
