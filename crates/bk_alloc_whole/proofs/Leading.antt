@@ -1,7 +1,7 @@
 -- Each block begins behind a predecessor, but the entry, which begins with no value.
 use Rattle.std.proofs.Common.{◌≡◌, ◌∙◌, sym, refl, ap, subst, ℕ, zero, suc, ◌+◌, ◌<◌, ◌≤◌, ◌⊎◌, inl, inr, ⊎_elim, Bool, true, false, cond, not, List, [], ◌∷◌, ◌++◌, length, map, replicate, get_or, Option, Some, None, arith, append_assoc}
 use Rattle.std.specs.Prelude.{filter, count_by}
-use Rattle.std.specs.List.{Contains, filter_map, slice_get}
+use Rattle.std.specs.List.{Contains, cons_option, filter_map, slice_get}
 use Rattle.std.proofs.lemmas.Bool.{and_from, not_from_false}
 use Rattle.std.proofs.lemmas.List.{length-map, length-replicate}
 use Rattle.std.proofs.lemmas.List.Elements.{Contains-append_left, Contains-append_right, Contains-push, filter_map-append}
@@ -85,10 +85,9 @@ mid_in pre v post = in_right v pre (v ∷ post) (inl refl)
 
 pub taken : (t : Target) (f : FuncRecord) (os : List (List ℕ)) (next : Next) → IsCallFree t f → IsOrdered f os → (b : BlockRecord) → IsEntry f b → (zs : List ValueRecord) → ((z : ValueRecord) → In z zs → Contains b.values z)
     → Scheduled b b.values zs → AreApart (ids zs) → (rs : Registers) → length rs ≡ length (registers_of t) → ((q : ℕ) → is_open (get_or rs q None) ≡ true) → AreTaken (is_word f.blocks) zs rs
-taken t f os next free o b e zs inside sch apart rs size open =
+taken t f os next free o b e zs inside sch apart rs size opened =
     let hb : HasBlock f b = contains_at f.blocks 0 b e in
     let s = o.setting in
-    let typed : (v : ValueRecord) → (iv : In v zs) → _ = λ v iv. (o.formed.kinds Typed b hb).value v (inside v iv) in
     record {
       first = λ pre v post w u iu tu.
           let jv : In v zs = subst (λ (l : List ValueRecord). In v l) (sym w) (mid_in pre v post) in
@@ -100,7 +99,7 @@ taken t f os next free o b e zs inside sch apart rs size open =
           let jv : In v zs = subst (λ (l : List ValueRecord). In v l) (sym w) (mid_in pre v post) in
           let ju : In u zs = subst (λ (l : List ValueRecord). In u l) (sym w) (in_right u pre (v ∷ post) (inr iu)) in
           apart_at pre v post u (subst (λ (l : List ValueRecord). AreApart (ids l)) w apart) iu (free.once b b v u (hb, inside v jv) (hb, inside u ju) tv tu same);
-      at = λ u iu tu. (subst (λ (m : ℕ). passing (natural u.int) < m) (sym size) (free.few b u (hb, inside u iu) tu), open (passing (natural u.int)));
+      at = λ u iu tu. (subst (λ (m : ℕ). passing (natural u.int) < m) (sym size) (free.few b u (hb, inside u iu) tu), opened (passing (natural u.int)));
       gives = λ u iu tu.
           let types = (o.formed.kinds Typed b hb).value u (inside u iu) in
           and_from (has_word_of u.ty) (not (is_nil_check u.op.family)) (takes_word s f u types tu) (ap (λ (g : Family). not (is_nil_check g)) tu);
@@ -156,3 +155,69 @@ entry_first t f os next free o sc a b e k =
       quiet = subst (λ (l : Registers). AreQuiet (next b.id) (count_by is_phi_value zs) (map (task_of word) (filter is_scheduled zs)) l) (sym start)
           (subst (λ (l : List ValueRecord). AreQuiet (next b.id) (count_by is_phi_value zs) (map (task_of word) l) rs) (sym rest) q);
     }
+
+-- one more block behind the others
+
+led_more : (count : ℕ) (words : List ℕ) (next : Next) (es : List ℕ) (bs : List PlanRecord) (b : PlanRecord) → AreLed count words next es bs
+    → IsNext (es ++ map (λ (p : PlanRecord). p.id) bs) b ⊎ IsFirst count words next (es ++ map (λ (p : PlanRecord). p.id) bs) b → AreLed count words next es (bs ++ b ∷ [])
+unfolding AreLed
+led_more count words next es [] b h l = (subst (λ (ns : List ℕ). IsNext ns b ⊎ IsFirst count words next ns b) (none_more es) l, tt)
+  where
+    none_more : (ns : List ℕ) → ns ++ [] ≡ ns
+    none_more [] = refl
+    none_more (n ∷ ns) = ap (λ (l : List ℕ). n ∷ l) (none_more ns)
+led_more count words next es (x ∷ xs) b h l =
+    (h.0, led_more count words next (es ++ x.id ∷ []) xs b h.1
+    (subst (λ (ns : List ℕ). IsNext ns b ⊎ IsFirst count words next ns b) (sym (append_assoc es (x.id ∷ []) (map (λ (p : PlanRecord). p.id) xs))) l))
+
+one_planned : (h : ℕ → Option PlanRecord) (n : ℕ) (p : PlanRecord) → h n ≡ Some p → filter_map h (n ∷ []) ≡ p ∷ []
+one_planned h n p e = rw e refl
+
+in_planned : (h : ℕ → Option PlanRecord) (ns : List ℕ) (n : ℕ) (p : PlanRecord) → In n ns → h n ≡ Some p → In p (filter_map h ns)
+in_planned h [] n p i e = elim i [ ]
+in_planned h (m ∷ ns) n p (inl q) e = rw (ap h q ∙ e) (inl refl)
+in_planned h (m ∷ ns) n p (inr i) e = go (h m) (in_planned h ns n p i e)
+  where
+    go : (o : Option PlanRecord) → In p (filter_map h ns) → In p (cons_option o (filter_map h ns))
+    go None j = j
+    go (Some x) j = inr j
+
+pub entry_in : (f : FuncRecord) (ns : List ℕ) → Laid f ns → (b : BlockRecord) → IsEntry f b → Contains ns b.id
+entry_in f _ (first d e) b q = (0, omega arith, ap (λ (x : BlockRecord). x.id) (same_Some d b (sym e ∙ q)))
+entry_in f _ (more ns a d l ha hd ca s fresh) b q = Contains-append_left ns (d.id ∷ []) b.id (entry_in f ns l b q)
+
+ids_have : (f : FuncRecord) (os : List (List ℕ)) → IsOrdered f os → IsJoined f → (ns : List ℕ) → (a : BlockRecord) → HasBlock f a → Contains ns a.id → Contains (map (λ (p : PlanRecord). p.id) (laid_out f.blocks ns os)) a.id
+ids_have f os o g ns a ha c =
+    let (i, at) = at_contains f.blocks a ha in
+    let p = plan_of (is_word f.blocks) a (order_at os i) in
+    let j : In p (laid_out f.blocks ns os) = in_planned (planned f.blocks os) ns a.id p (to_in a.id ns c) (planned_at f os o g i a at) in
+    to_contains a.id (map (λ (q : PlanRecord). q.id) (laid_out f.blocks ns os)) (in_map (λ (q : PlanRecord). q.id) (laid_out f.blocks ns os) p j)
+
+pub led : (t : Target) (f : FuncRecord) (os : List (List ℕ)) (next : Next) → IsCallFree t f → IsOrdered f os → IsJoined f → AreScheduled f os → AllNextUses f os next → (ns : List ℕ) → Laid f ns
+    → AreLed (length (registers_of t)) (words_of f) next [] (laid_out f.blocks ns os)
+unfolding AreLed
+led t f os next free o g sc a _ (first b e) =
+    let hb : HasBlock f b = contains_at f.blocks 0 b e in
+    let k = block f os next o sc a 0 b e (b.id ∷ []) (clear f os o (b.id ∷ []) (first b e) b hb (0, omega arith, refl)) in
+    let count = length (registers_of t) in
+    let p = plan_of (is_word f.blocks) b (order_at os 0) in
+    let here : IsFirst count (words_of f) next [] p = subst (λ (q : PlanRecord). IsFirst count (words_of f) next [] q) (sym k.plan) (entry_first t f os next free o sc a b e k) in
+    subst (λ (l : List PlanRecord). AreLed count (words_of f) next [] l) (sym (one_planned (planned f.blocks os) b.id p (planned_at f os o g 0 b e))) (inr here, tt)
+led t f os next free o g sc a _ (more ns d b l hd hb cd s fresh) =
+    let (i, at) = at_contains f.blocks b hb in
+    let all : Laid f (ns ++ b.id ∷ []) = more ns d b l hd hb cd s fresh in
+    let k = block f os next o sc a i b at (ns ++ b.id ∷ []) (clear f os o (ns ++ b.id ∷ []) all b hb (Contains-push ns b.id)) in
+    let count = length (registers_of t) in
+    let p = plan_of (is_word f.blocks) b (order_at os i) in
+    let plans = laid_out f.blocks ns os in
+    let numbers = map (λ (q : PlanRecord). q.id) plans in
+    let pred : Contains b.preds d.id = any_eq b.preds d.id (g.agree d b hd hb ∙ eq_any d.succs b.id s) in
+    let none : (v : ValueRecord) → HasValue f b v → ¬ TakesWord v = λ v hv w. fresh (entry_in f ns l b (free.entry b v hv w)) in
+    let calm : IsNext numbers (plan_with (is_word f.blocks) b (order_at os i) (k.ps ++ k.ts)) = record {
+      led = (d.id, ids_have f os o g ns d hd cd, pred);
+      calm = tasks_calm t f os free o b hb (k.ps ++ k.ts) k.lies.inside none;
+    } in
+    let here : IsNext numbers p = subst (λ (q : PlanRecord). IsNext numbers q) (sym k.plan) calm in
+    let same : laid_out f.blocks (ns ++ b.id ∷ []) os ≡ plans ++ p ∷ [] = filter_map-append (planned f.blocks os) ns (b.id ∷ [])
+    ∙ ap (λ (q : List PlanRecord). plans ++ q) (one_planned (planned f.blocks os) b.id p (planned_at f os o g i b at)) in
+    subst (λ (q : List PlanRecord). AreLed count (words_of f) next [] q) (sym same) (led_more count (words_of f) next [] plans p (led t f os next free o g sc a ns l) (inl here))

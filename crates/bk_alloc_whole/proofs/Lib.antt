@@ -8,4 +8,5 @@ pub mod Planning
 pub mod Quieting
 pub mod Taking
 pub mod Walking
+pub mod Whole
 pub mod Words
