@@ -38,7 +38,7 @@ use Rattle.bk_alloc_whole.proofs.Flowing.{Lies, apart_from, ids}
 use Rattle.bk_alloc_whole.proofs.Laying.{Laid, any_eq, clear, eq_any, first, more}
 use Rattle.bk_alloc_whole.proofs.Planning.{Block, block, laid_block, planned_at}
 use Rattle.bk_alloc_whole.proofs.Quieting.{AreTaken, calm_value, quiet_from, takes_word}
-use Rattle.bk_alloc_whole.proofs.Taking.{IsEarly, no_args, words_first}
+use Rattle.bk_alloc_whole.proofs.Taking.{IsBare, IsEarly, no_args, words_first}
 use Rattle.bk_alloc_whole.proofs.Walking.{unpassed}
 use Rattle.bk_alloc_whole.proofs.Words.{in_map, live_of, map_in}
 
@@ -93,7 +93,7 @@ taken t f os next free o b e zs inside sch apart rs size opened =
           let jv : In v zs = subst (λ (l : List ValueRecord). In v l) (sym w) (mid_in pre v post) in
           let ju : In u zs = subst (λ (l : List ValueRecord). In u l) (sym w) (in_right u pre (v ∷ post) (inr iu)) in
           let types = (o.formed.kinds Typed b hb).value u (inside u ju) in
-          let bare = (tu, no_args s f b u ((o.formed.kinds Arity b hb).value u (inside u ju)) types.op tu, takes_word s f u types tu) in
+          let bare : IsBare u = (tu, no_args s f b u ((o.formed.kinds Arity b hb).value u (inside u ju)) types.op tu, takes_word s f u types tu) in
           early_takes v (no_entry_phi f os o b e v (inside v jv)) (free.calls b v (hb, inside v jv)).1 (words_first b b.values zs sch pre v post w u iu bare);
       apart = λ pre v post w u iu tv tu same.
           let jv : In v zs = subst (λ (l : List ValueRecord). In v l) (sym w) (mid_in pre v post) in

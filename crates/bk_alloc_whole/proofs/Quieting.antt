@@ -64,7 +64,7 @@ takes_data : (s : Setting) (f : FuncRecord) (v : ValueRecord) (g : Family) → G
 unfolding GivesWord
 takes_data s f v g h e = (subst (λ (x : Family). GivesWord s f v x) e h).0
 
-takes_word : (s : Setting) (f : FuncRecord) (v : ValueRecord) → HasTypes s f v → TakesWord v → has_word_of v.ty ≡ true
+pub takes_word : (s : Setting) (f : FuncRecord) (v : ValueRecord) → HasTypes s f v → TakesWord v → has_word_of v.ty ≡ true
 takes_word s f v h e =
     let c = result_at v.op op.ArgReg class.Word e h.op (takes_row v.op.a v.op.b) in
     data_word s v.ty (takes_data s f v v.op.family (subst (λ (k : Class). Gives s f v k) c h.result) e)
