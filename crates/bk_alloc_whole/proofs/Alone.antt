@@ -1,13 +1,13 @@
 -- Values with one number are one value, in one place.
-use Rattle.std.proofs.Common.{◌≡◌, ◌∙◌, sym, refl, ap, subst, ℕ, zero, suc, ◌+◌, ◌<◌, ◌≤◌, ◌==◌, Bool, true, cond, List, [], ◌∷◌, ◌++◌, length, Some, arith, eq-eqb}
+use Rattle.std.proofs.Common.{◌≡◌, ◌∙◌, sym, refl, ap, subst, ℕ, zero, suc, ◌≤◌, ◌==◌, List, [], ◌∷◌, Some, arith, eq-eqb}
 use Rattle.std.specs.List.{Contains, count_by, slice_get, sum_by}
 use Rattle.std.proofs.lemmas.List.Sums.{sum_by-cons}
 use Rattle.std.proofs.lemmas.Option.{same_Some, slice_get_past, none-some}
 use Rattle.bk_func.specs.Records.{ValueRecord, BlockRecord, FuncRecord}
-use Rattle.bk_func.specs.Form.Text.{HasBlock, HasValue}
+use Rattle.bk_func.specs.Form.Text.{HasValue}
 use Rattle.bk_func.specs.Form.Parts.{IsValueNumber}
-use Rattle.bk_live.specs.Live.{IsOrdered, IsEntry, order_at}
-use Rattle.bk_live.proofs.Alone.{at_contains, contains_at, count_alone, entry_alone, value_entry, value_number}
+use Rattle.bk_live.specs.Live.{IsOrdered, IsEntry}
+use Rattle.bk_live.proofs.Alone.{at_contains, count_alone, entry_alone, value_entry, value_number}
 
 -- where a value stands
 pub record Stands (f : FuncRecord) (os : List (List ℕ)) (b : BlockRecord) (v : ValueRecord) : Type 0 where

@@ -1,12 +1,11 @@
 -- Next uses where a block begins and through it.
-use Rattle.std.proofs.Common.{◌≡◌, ◌∙◌, sym, refl, ap, subst, ℕ, zero, suc, ◌+◌, ◌<◌, ◌≤◌, ◌==◌, ◌⊎◌, inl, inr, ⊎_elim, Bool, true, false, cond, not, List, [], ◌∷◌, ◌++◌, length, map, Option, Some, None, arith}
+use Rattle.std.proofs.Common.{◌≡◌, ◌∙◌, sym, refl, ap, subst, ℕ, zero, suc, ◌+◌, ◌<◌, ◌≤◌, ◌==◌, inl, inr, ⊎_elim, Bool, true, false, cond, not, List, [], ◌∷◌, ◌++◌, length, map, Option, Some, None, arith}
 use Rattle.std.specs.Prelude.{filter, count_by, sum_by, IfSome}
-use Rattle.std.specs.List.{Contains, slice_get}
+use Rattle.std.specs.List.{Contains}
 use Rattle.std.proofs.lemmas.Bool.{MatchBool-at_true, MatchBool-at_false, cases_Bool, and_from, and_parts, cases_lt, false≢true, eqb-true, not_from_true, not_from_false, false_from_ne_true}
 use Rattle.std.proofs.lemmas.List.{length-append, length-map}
 use Rattle.std.proofs.lemmas.List.Elements.{Contains-append_right}
 use Rattle.std.proofs.lemmas.List.Sums.{sum_by-cons}
-use Rattle.std.proofs.lemmas.Option.{same_Some, none-some}
 use Rattle.bk_ops.specs.Families.{is_nil_check, is_phi}
 use Rattle.bk_ops.specs.declared.family.Family.{Family}
 use Rattle.bk_ops.specs.declared.family.Family.TheVariants as op
@@ -18,16 +17,15 @@ use Rattle.bk_func.specs.declared.parts.Kind.{Kind}
 use Rattle.bk_func.specs.declared.parts.Kind.TheVariants.{Plain, If, First, Ret, Exit}
 use Rattle.bk_func.specs.Records.{ValueRecord, BlockRecord, FuncRecord}
 use Rattle.bk_func.specs.Form.Parts.{IsValueNumber}
-use Rattle.bk_func.specs.Form.Shapes.{FitsControl, FitsTruth, IsData, IsFree}
+use Rattle.bk_func.specs.Form.Shapes.{FitsControl, FitsTruth, IsData}
 use Rattle.bk_func.specs.Form.Signatures.{Setting}
-use Rattle.bk_func.specs.Form.Text.{Defines, HasBlock, HasValue, IsPhi}
+use Rattle.bk_func.specs.Form.Text.{HasBlock, HasValue, IsPhi}
 use Rattle.bk_func.proofs.Faults.{In, filter-in, in-filter}
-use Rattle.bk_live.specs.Live.{AllNextUses, IsEntry, IsLive, IsOrdered, IsUsedAt, here, order_at}
+use Rattle.bk_live.specs.Live.{IsLive, here, order_at}
 use Rattle.bk_live.proofs.Alone.{contains_at, found as counted_there}
-use Rattle.bk_sched.proofs.Lists.{in_left, in_right, in_either, to_contains, to_in}
-use Rattle.bk_alloc.specs.Blocks.{Next, PlanRecord, PhiRecord, controls, phi_of, phis_of}
+use Rattle.bk_sched.proofs.Lists.{in_left, in_right, to_contains, to_in}
+use Rattle.bk_alloc.specs.Blocks.{Next, PlanRecord, PhiRecord, controls, phi_of}
 use Rattle.bk_alloc.specs.Placement.{control_of, has_word, has_word_of, is_phi_value, is_scheduled, is_word, is_word_phi, task_of}
-use Rattle.bk_alloc.specs.Tasks.{TaskRecord}
 use Rattle.bk_alloc_quality.specs.Pressure.{AreApart, ArePassed, IsBegun, IsFlow, IsUsed, values_of}
 use Rattle.bk_alloc_whole.specs.Whole.{IsCallFree, words_of}
 use Rattle.bk_alloc_whole.proofs.Alone.{same}
@@ -119,8 +117,11 @@ scheduled_rest (p ∷ ps) ts h n =
 -- none comes twice
 
 apart_by : (t : ValueRecord → Bool) (z : ValueRecord) (zs : List ValueRecord) → ¬ Contains (ids zs) z.id → AreApart (ids (filter t zs)) → (b : Bool) → AreApart (ids (cond b (z ∷ filter t zs) (filter t zs)))
-apart_by t z zs n r true = (λ c. (let (y, iy, e) = map_in (λ (x : ValueRecord). x.id) (filter t zs) z.id (to_in z.id (ids (filter t zs)) c) in
-    n (to_contains z.id (ids zs) (subst (λ (m : ℕ). In m (ids zs)) e (in_map (λ (x : ValueRecord). x.id) zs y (in-filter t y zs iy).0)))), r)
+apart_by t z zs n r true = (
+  λ c. (let (y, iy, e) = map_in (λ (x : ValueRecord). x.id) (filter t zs) z.id (to_in z.id (ids (filter t zs)) c) in
+      n (to_contains z.id (ids zs) (subst (λ (m : ℕ). In m (ids zs)) e (in_map (λ (x : ValueRecord). x.id) zs y (in-filter t y zs iy).0)))),
+  r,
+)
 apart_by t z zs n r false = r
 
 apart_filter : (t : ValueRecord → Bool) (zs : List ValueRecord) → AreApart (ids zs) → AreApart (ids (filter t zs))
@@ -163,7 +164,7 @@ begins f os next i b ps ts h =
           let jz = in_right z ps ts iz in (
             not_used f os next i b ps ts h z jz v e,
             λ d. (let p = phi_in zs v d in
-            h.rest z iz (subst IsPhi (same f os h.ordered b b p.value z (hb, h.inside p.value p.there) (hb, h.inside z jz) (p.id ∙ sym e)).values p.phi)),
+                h.rest z iz (subst IsPhi (same f os h.ordered b b p.value z (hb, h.inside p.value p.there) (hb, h.inside z jz) (p.id ∙ sym e)).values p.phi)),
           );
     }
 

@@ -1,11 +1,11 @@
 -- What an edge brings is live where it is left.
-use Rattle.std.proofs.Common.{◌≡◌, ◌∙◌, sym, refl, ap, subst, ℕ, zero, suc, ◌+◌, ◌<◌, ◌≤◌, ◌==◌, ◌⊎◌, inl, inr, ⊎_elim, Bool, true, false, cond, not, List, [], ◌∷◌, ◌++◌, length, map, get_or, Option, Some, None, arith, eqb-true, eq-eqb, ne_eqb, All}
+use Rattle.std.proofs.Common.{◌≡◌, ◌∙◌, sym, refl, ap, subst, ℕ, ◌<◌, ◌≤◌, ◌==◌, ◌⊎◌, inl, inr, ⊎_elim, Bool, true, false, cond, not, List, [], ◌∷◌, ◌++◌, length, map, get_or, Some, arith, eqb-true, eq-eqb, ne_eqb}
 use Rattle.std.specs.Prelude.{filter, slice_index}
 use Rattle.std.specs.List.{Contains, count_by, find, position_or_len, slice_get}
 use Rattle.std.proofs.lemmas.Bool.{MatchBool-at_true, MatchBool-at_false, and_from, and_parts, cases_Bool, cases_eq, false≢true, not_from_false}
 use Rattle.std.proofs.lemmas.List.Elements.{All-contains}
 use Rattle.std.proofs.lemmas.List.Sums.{passes_at_first}
-use Rattle.std.proofs.lemmas.Option.{same_Some, none-some, slice_get-get_or, slice_get_within}
+use Rattle.std.proofs.lemmas.Option.{slice_get-get_or, slice_get_within}
 use Rattle.bk_ops.specs.Families.{is_nil_check}
 use Rattle.bk_ops.specs.Types.{width_of}
 use Rattle.bk_ops.specs.declared.family.Family.{Family}
@@ -16,19 +16,19 @@ use Rattle.bk_ops.specs.declared.types.Ty.TheVariants as ty
 use Rattle.bk_func.specs.declared.form.FormKind.TheVariants.{Arity, Missing, Ty as Typed}
 use Rattle.bk_func.specs.Records.{ValueRecord, BlockRecord, FuncRecord}
 use Rattle.bk_func.specs.Form.Parts.{HasArity, IsValueNumber}
-use Rattle.bk_func.specs.Form.Shapes.{FitsBits, FitsPlace, FitsSlot, IsAlike, IsData, IsFree, same as same_slot, slot}
+use Rattle.bk_func.specs.Form.Shapes.{FitsPlace, FitsSlot, IsAlike, IsData, same as same_slot, slot}
 use Rattle.bk_func.specs.Form.Signatures.{Setting}
 use Rattle.bk_func.specs.Form.Text.{HasBlock, HasValue, IsPhi}
 use Rattle.bk_func.proofs.Faults.{In}
 use Rattle.bk_graph.specs.Joined.{IsJoined}
 use Rattle.bk_graph.proofs.Listed.{counted_at}
-use Rattle.bk_live.specs.Live.{AllNextUses, HasSuccessor, IsLive, IsOrdered, here, leave, order_at}
+use Rattle.bk_live.specs.Live.{here, leave, order_at}
 use Rattle.bk_live.proofs.Alone.{at_contains, contains_at, counted}
-use Rattle.bk_sched.proofs.Lists.{to_contains, to_in}
-use Rattle.bk_alloc.specs.Blocks.{Next, PhiRecord, PlanRecord, phi_of, phis_of, source_by, source_of}
+use Rattle.bk_sched.proofs.Lists.{to_in}
+use Rattle.bk_alloc.specs.Blocks.{Next, PhiRecord, phi_of, source_by, source_of}
 use Rattle.bk_alloc.specs.Placement.{has_word, has_word_of, is_phi_value, is_word, is_word_phi}
 use Rattle.bk_alloc_quality.specs.Pressure.{IsUsed}
-use Rattle.bk_alloc_quality.specs.Flows.{IsBrought, brought}
+use Rattle.bk_alloc_quality.specs.Flows.{IsBrought}
 use Rattle.bk_alloc_whole.specs.Whole.{IsCallFree, words_of}
 use Rattle.bk_alloc_whole.proofs.Beginning.{data_word, numbered, phi_ids, phi_is, plan_with}
 use Rattle.bk_alloc_whole.proofs.Flowing.{Lies, ids}

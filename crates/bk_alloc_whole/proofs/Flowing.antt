@@ -1,24 +1,21 @@
 -- Next uses in a block that is scheduled.
-use Rattle.std.proofs.Common.{◌≡◌, ◌∙◌, sym, refl, ap, subst, ℕ, zero, suc, ◌+◌, ◌<◌, ◌≤◌, ◌==◌, ◌⊎◌, inl, inr, ⊎_elim, Bool, true, false, cond, List, [], ◌∷◌, ◌++◌, length, map, Option, Some, None, arith, eqb-true, append_assoc}
-use Rattle.std.specs.Prelude.{filter, count_by}
-use Rattle.std.specs.List.{Contains, filter_map, slice_get}
-use Rattle.std.proofs.lemmas.Bool.{cases_eq, and_from, and_parts, false≢true}
+use Rattle.std.proofs.Common.{◌≡◌, ◌∙◌, sym, refl, ap, subst, ℕ, zero, suc, ◌+◌, ◌<◌, ◌⊎◌, inl, inr, ⊎_elim, Bool, true, List, [], ◌∷◌, ◌++◌, length, map, Some, arith, append_assoc}
+use Rattle.std.specs.Prelude.{filter}
+use Rattle.std.specs.List.{Contains, slice_get}
+use Rattle.std.proofs.lemmas.Bool.{cases_eq}
 use Rattle.std.proofs.lemmas.List.{length-append}
-use Rattle.std.proofs.lemmas.Option.{same_Some, slice_get_within, none-some}
+use Rattle.std.proofs.lemmas.Option.{slice_get_within}
 use Rattle.bk_func.specs.Records.{ValueRecord, BlockRecord, FuncRecord}
-use Rattle.bk_func.specs.Form.Text.{Defines, HasBlock, HasValue, IsPhi}
-use Rattle.bk_func.proofs.Faults.{In, filter-in, in-filter}
-use Rattle.bk_live.specs.Live.{AllNextUses, IsEntry, IsLive, IsOrdered, Takes, here, order_at, pass}
+use Rattle.bk_func.specs.Form.Text.{Defines, HasBlock, IsPhi}
+use Rattle.bk_func.proofs.Faults.{In, in-filter}
+use Rattle.bk_live.specs.Live.{AllNextUses, IsEntry, IsLive, IsOrdered, here, order_at, pass}
 use Rattle.bk_live.proofs.Alone.{contains_at, entry_alone}
-use Rattle.bk_sched.proofs.Lists.{in_left, in_right, in_either, to_contains, to_in}
-use Rattle.bk_alloc.specs.Blocks.{Next, PlanRecord, PhiRecord, phi_of, phis_of}
-use Rattle.bk_alloc.specs.Placement.{control_of, has_word, is_phi_value, is_scheduled, is_word, is_word_phi, task_of}
-use Rattle.bk_alloc.specs.Tasks.{TaskRecord}
-use Rattle.bk_alloc_quality.specs.Pressure.{AreApart, ArePassed, IsBegun, IsFlow, IsPassed, IsUsed, values_of}
-use Rattle.bk_alloc_whole.specs.Whole.{AreScheduled, words_of}
-use Rattle.bk_alloc_whole.proofs.Alone.{same}
-use Rattle.bk_alloc_whole.proofs.Walking.{in_get}
-use Rattle.bk_alloc_whole.proofs.Words.{has_word_by, in_map, in_words, live_of, map_in, used_of, word_contained, from_words}
+use Rattle.bk_sched.proofs.Lists.{in_right, to_contains, to_in}
+use Rattle.bk_alloc.specs.Blocks.{Next}
+use Rattle.bk_alloc.specs.Placement.{is_word, task_of}
+use Rattle.bk_alloc_quality.specs.Pressure.{AreApart, ArePassed, IsPassed, values_of}
+use Rattle.bk_alloc_whole.specs.Whole.{words_of}
+use Rattle.bk_alloc_whole.proofs.Words.{has_word_by, in_words, live_of, used_of, word_contained}
 
 abbrev pub ids : List ValueRecord → List ℕ
 ids vs = map (λ (v : ValueRecord). v.id) vs
@@ -100,7 +97,7 @@ passed_from f os next i b ps ts pre (u ∷ us) h w phi =
     let more : ps ++ ts ≡ (pre ++ u ∷ []) ++ us = w ∙ sym (append_assoc pre (u ∷ []) us) in (
       passed_one f os next i b ps ts pre us u h w (phi u (inl refl)),
       subst (λ (m : ℕ). ArePassed (words_of f) (next b.id) m (map (task_of (is_word f.blocks)) us)) (one_more pre u)
-      (passed_from f os next i b ps ts (pre ++ u ∷ []) us h more (λ z c. phi z (inr c))),
+          (passed_from f os next i b ps ts (pre ++ u ∷ []) us h more (λ z c. phi z (inr c))),
     )
 
 -- what is live behind the phis is one of them or live before
@@ -128,9 +125,9 @@ apart_from f os next i b ps ts pre (u ∷ us) h w =
     let k = length pre in
     let more : ps ++ ts ≡ (pre ++ u ∷ []) ++ us = w ∙ sym (append_assoc pre (u ∷ []) us) in (
       λ c. (let j = in_at us u.id (to_in u.id (ids us) c) in
-      let e : IsEntry os i k u.id = entry f os next i b ps ts pre (u ∷ us) k 0 u.id h w (omega arith) refl in
-      let d : IsEntry os i (k + suc j.0) u.id = entry f os next i b ps ts pre (u ∷ us) (k + suc j.0) (suc j.0) u.id h w refl j.1 in
-      let q = (entry_alone f os h.ordered i i k (k + suc j.0) u.id e d).1 in
-      omega (arith, q)),
+          let e : IsEntry os i k u.id = entry f os next i b ps ts pre (u ∷ us) k 0 u.id h w (omega arith) refl in
+          let d : IsEntry os i (k + suc j.0) u.id = entry f os next i b ps ts pre (u ∷ us) (k + suc j.0) (suc j.0) u.id h w refl j.1 in
+          let q = (entry_alone f os h.ordered i i k (k + suc j.0) u.id e d).1 in
+          omega (arith, q)),
       apart_from f os next i b ps ts (pre ++ u ∷ []) us h more,
     )

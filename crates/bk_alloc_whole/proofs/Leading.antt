@@ -1,11 +1,11 @@
 -- Each block begins behind a predecessor, but the entry, which begins with no value.
-use Rattle.std.proofs.Common.{◌≡◌, ◌∙◌, sym, refl, ap, subst, ℕ, zero, suc, ◌+◌, ◌<◌, ◌≤◌, ◌⊎◌, inl, inr, ⊎_elim, Bool, true, false, cond, not, List, [], ◌∷◌, ◌++◌, length, map, replicate, get_or, Option, Some, None, arith, append_assoc}
+use Rattle.std.proofs.Common.{◌≡◌, ◌∙◌, sym, refl, ap, subst, ℕ, ◌<◌, ◌⊎◌, inl, inr, true, false, not, List, [], ◌∷◌, ◌++◌, length, map, replicate, get_or, Option, Some, None, arith, append_assoc}
 use Rattle.std.specs.Prelude.{filter, count_by}
-use Rattle.std.specs.List.{Contains, cons_option, filter_map, slice_get}
-use Rattle.std.proofs.lemmas.Bool.{and_from, not_from_false}
+use Rattle.std.specs.List.{Contains, cons_option, filter_map}
+use Rattle.std.proofs.lemmas.Bool.{and_from}
 use Rattle.std.proofs.lemmas.List.{length-map, length-replicate}
-use Rattle.std.proofs.lemmas.List.Elements.{Contains-append_left, Contains-append_right, Contains-push, filter_map-append}
-use Rattle.std.proofs.lemmas.Option.{none-some, same_Some}
+use Rattle.std.proofs.lemmas.List.Elements.{Contains-append_left, Contains-push, filter_map-append}
+use Rattle.std.proofs.lemmas.Option.{same_Some}
 use Rattle.bk_ops.specs.Families.{is_nil_check, is_word_result}
 use Rattle.bk_ops.specs.declared.family.Family.{Family}
 use Rattle.bk_ops.specs.declared.family.Family.TheVariants as op
@@ -16,27 +16,27 @@ use Rattle.bk_func.specs.Records.{ValueRecord, BlockRecord, FuncRecord}
 use Rattle.bk_func.specs.Form.Parts.{HasArity}
 use Rattle.bk_func.specs.Form.Signatures.{Setting}
 use Rattle.bk_func.specs.Form.Text.{HasBlock, HasValue, IsEntry, IsPhi}
-use Rattle.bk_func.specs.Form.Walks.{Passes, Walk, begin}
+use Rattle.bk_func.specs.Form.Walks.{begin}
 use Rattle.bk_func.proofs.Faults.{In, in-filter}
 use Rattle.bk_graph.specs.Joined.{IsJoined}
 use Rattle.bk_live.specs.Live.{AllNextUses, IsOrdered, order_at}
 use Rattle.bk_live.proofs.Alone.{at_contains, contains_at}
 use Rattle.bk_sched.specs.Schedule.{Scheduled}
 use Rattle.bk_sched.proofs.Lists.{in_right, in_left, to_contains, to_in}
-use Rattle.bk_alloc.specs.Blocks.{Next, PhiRecord, PlanRecord, begun, first_map, phi_of, phis_of, with_phi}
-use Rattle.bk_alloc.specs.Placement.{has_word, has_word_of, is_phi_value, is_scheduled, is_word, is_word_phi, laid_out, plan_of, planned, role_of, task_of}
+use Rattle.bk_alloc.specs.Blocks.{Next, PlanRecord, begun, first_map, phis_of}
+use Rattle.bk_alloc.specs.Placement.{has_word_of, is_phi_value, is_scheduled, is_word, laid_out, plan_of, planned, task_of}
 use Rattle.bk_alloc.specs.Registers.{Registers, Uses, freed, is_open, while_used}
 use Rattle.bk_alloc.specs.Tasks.{TaskRecord, passing}
 use Rattle.bk_alloc_laws.proofs.Holding.{freed_at}
-use Rattle.bk_alloc_quality.specs.Pressure.{AreApart, AreQuiet, IsUsed}
+use Rattle.bk_alloc_quality.specs.Pressure.{AreApart, AreQuiet}
 use Rattle.bk_alloc_quality.specs.Flows.{AreLed, IsCalmAs, IsFirst, IsNext}
 use Rattle.bk_alloc_quality.proofs.Allotting.{nothing_held}
 use Rattle.bk_alloc.specs.Placement.{registers_of}
 use Rattle.bk_alloc_whole.specs.Whole.{AreScheduled, IsCallFree, TakesWord, words_of}
 use Rattle.bk_alloc_whole.proofs.Beginning.{phi_in, plan_with, scheduled_rest}
-use Rattle.bk_alloc_whole.proofs.Flowing.{Lies, apart_from, ids}
+use Rattle.bk_alloc_whole.proofs.Flowing.{apart_from, ids}
 use Rattle.bk_alloc_whole.proofs.Laying.{Laid, any_eq, clear, eq_any, first, more}
-use Rattle.bk_alloc_whole.proofs.Planning.{Block, block, laid_block, planned_at}
+use Rattle.bk_alloc_whole.proofs.Planning.{Block, block, planned_at}
 use Rattle.bk_alloc_whole.proofs.Quieting.{AreTaken, calm_value, quiet_from, takes_word}
 use Rattle.bk_alloc_whole.proofs.Taking.{IsBare, IsEarly, no_args, words_first}
 use Rattle.bk_alloc_whole.proofs.Walking.{unpassed}
@@ -166,9 +166,11 @@ led_more count words next es [] b h l = (subst (λ (ns : List ℕ). IsNext ns b 
     none_more : (ns : List ℕ) → ns ++ [] ≡ ns
     none_more [] = refl
     none_more (n ∷ ns) = ap (λ (l : List ℕ). n ∷ l) (none_more ns)
-led_more count words next es (x ∷ xs) b h l =
-    (h.0, led_more count words next (es ++ x.id ∷ []) xs b h.1
-    (subst (λ (ns : List ℕ). IsNext ns b ⊎ IsFirst count words next ns b) (sym (append_assoc es (x.id ∷ []) (map (λ (p : PlanRecord). p.id) xs))) l))
+led_more count words next es (x ∷ xs) b h l = (
+  h.0,
+  led_more count words next (es ++ x.id ∷ []) xs b h.1
+      (subst (λ (ns : List ℕ). IsNext ns b ⊎ IsFirst count words next ns b) (sym (append_assoc es (x.id ∷ []) (map (λ (p : PlanRecord). p.id) xs))) l),
+)
 
 one_planned : (h : ℕ → Option PlanRecord) (n : ℕ) (p : PlanRecord) → h n ≡ Some p → filter_map h (n ∷ []) ≡ p ∷ []
 one_planned h n p e = rw e refl

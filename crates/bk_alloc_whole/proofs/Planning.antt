@@ -1,20 +1,19 @@
 -- The blocks of a layout as they are allocated.
-use Rattle.std.proofs.Common.{◌≡◌, ◌∙◌, sym, refl, ap, subst, ℕ, zero, suc, ◌+◌, ◌<◌, ◌≤◌, ◌==◌, ◌⊎◌, inl, inr, ⊎_elim, Bool, true, false, cond, List, [], ◌∷◌, ◌++◌, length, map, Option, Some, None, arith, eqb-true, eq-eqb, position}
+use Rattle.std.proofs.Common.{◌≡◌, ◌∙◌, sym, refl, ap, subst, ℕ, ◌<◌, ◌==◌, inl, inr, ⊎_elim, Bool, true, false, List, [], ◌∷◌, ◌++◌, length, Option, Some, None, arith, eqb-true, eq-eqb, position}
 use Rattle.std.specs.List.{Contains, cons_option, filter_map, find, slice_get}
 use Rattle.std.specs.Option.{option_and_then}
-use Rattle.std.proofs.lemmas.Option.{same_Some, none-some, slice_get-get_or, slice_get_within}
+use Rattle.std.proofs.lemmas.Option.{same_Some, slice_get-get_or, slice_get_within}
 use Rattle.bk_func.specs.Numbers.{value_in}
 use Rattle.bk_func.specs.Records.{ValueRecord, BlockRecord, FuncRecord}
-use Rattle.bk_func.specs.Form.Text.{Defines, HasBlock, HasValue, IsPhi}
-use Rattle.bk_func.specs.Form.Walks.{Passes, Walk}
+use Rattle.bk_func.specs.Form.Text.{Defines, HasBlock, IsPhi}
+use Rattle.bk_func.specs.Form.Walks.{Passes}
 use Rattle.bk_func.proofs.Faults.{In}
 use Rattle.bk_graph.specs.Joined.{IsJoined}
-use Rattle.bk_graph.specs.Layout.{layout_of}
 use Rattle.bk_graph.proofs.Laying.{place_sole}
 use Rattle.bk_graph.proofs.Listed.{position-map}
-use Rattle.bk_live.specs.Live.{AllNextUses, IsLive, IsOrdered, order_at}
+use Rattle.bk_live.specs.Live.{AllNextUses, IsOrdered, order_at}
 use Rattle.bk_live.proofs.Alone.{at_contains, contains_at}
-use Rattle.bk_sched.specs.Schedule.{IsSchedule, Scheduled}
+use Rattle.bk_sched.specs.Schedule.{Scheduled}
 use Rattle.bk_sched.proofs.Agreeing.{phis as phis_first}
 use Rattle.bk_sched.proofs.Keeping.{in_scheduled}
 use Rattle.bk_sched.proofs.Lists.{in_either, to_contains, to_in}
@@ -23,9 +22,9 @@ use Rattle.bk_alloc.specs.Placement.{is_phi_value, is_word, laid_out, ordered, p
 use Rattle.bk_alloc_quality.proofs.Allotting.{found_in, not_found}
 use Rattle.bk_alloc_whole.specs.Whole.{AreScheduled}
 use Rattle.bk_alloc_whole.proofs.Alone.{same}
-use Rattle.bk_alloc_whole.proofs.Beginning.{is_phi_of, no_phi_of, phi_is, plan_with}
+use Rattle.bk_alloc_whole.proofs.Beginning.{is_phi_of, phi_is, plan_with}
 use Rattle.bk_alloc_whole.proofs.Flowing.{Lies, ids}
-use Rattle.bk_alloc_whole.proofs.Laying.{Clear, Laid, block_numbered, clear, find_true, first, more, same_block}
+use Rattle.bk_alloc_whole.proofs.Laying.{Clear, Laid, clear, find_true, first, more}
 use Rattle.bk_alloc_whole.proofs.Walking.{unpassed}
 
 -- phis and then other values

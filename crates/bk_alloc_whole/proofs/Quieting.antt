@@ -1,36 +1,27 @@
 -- Words that were passed in registers are taken first, from registers that are open.
-use Rattle.std.proofs.Common.{◌≡◌, ◌∙◌, sym, refl, ap, subst, ℕ, zero, suc, ◌+◌, ◌<◌, ◌≤◌, ◌==◌, ◌⊎◌, inl, inr, ⊎_elim, Bool, true, false, cond, not, List, [], ◌∷◌, ◌++◌, length, map, replicate, get_or, get_or-set_other, Option, Some, None, arith}
-use Rattle.std.specs.Prelude.{filter}
-use Rattle.std.specs.List.{Contains, slice_get}
-use Rattle.std.proofs.lemmas.Bool.{and_from, and_left, false≢true, not_from_false, or_parts}
-use Rattle.std.proofs.lemmas.List.{length-map, length-replicate, length-set}
-use Rattle.bk_ops.specs.Families.{is_nil_check, is_phi, is_word_call, is_word_result}
+use Rattle.std.proofs.Common.{◌≡◌, ◌∙◌, sym, refl, ap, subst, ℕ, ◌+◌, ◌<◌, inl, inr, ⊎_elim, Bool, true, false, cond, not, List, [], ◌∷◌, ◌++◌, length, map, get_or, get_or-set_other, Some, None, arith}
+use Rattle.std.proofs.lemmas.Bool.{and_left, false≢true}
+use Rattle.std.proofs.lemmas.List.{length-set}
+use Rattle.bk_ops.specs.Families.{is_nil_check, is_word_call, is_word_result}
 use Rattle.bk_ops.specs.Table as table
 use Rattle.bk_ops.specs.Table.{info_of, is_op, row, unknown}
 use Rattle.bk_ops.specs.declared.family.Family.{Family}
 use Rattle.bk_ops.specs.declared.family.Family.TheVariants as op
-use Rattle.bk_ops.specs.declared.family.ArmOp.TheVariants as arm
-use Rattle.bk_ops.specs.declared.family.RvOp.TheVariants as rv
 use Rattle.bk_ops.specs.declared.table.Class.{Class}
 use Rattle.bk_ops.specs.declared.table.Class.TheVariants as class
 use Rattle.bk_ops.specs.declared.table.Op.{Op}
 use Rattle.bk_ops.specs.declared.types.Target.{Target}
-use Rattle.bk_ops.specs.declared.types.Ty.{Ty}
-use Rattle.bk_ops.specs.declared.types.Ty.TheVariants as ty
-use Rattle.bk_func.specs.declared.form.FormKind.TheVariants.{Arity, Ty as Typed}
+use Rattle.bk_func.specs.declared.form.FormKind.TheVariants.{Ty as Typed}
 use Rattle.bk_func.specs.Numbers.{natural}
 use Rattle.bk_func.specs.Records.{ValueRecord, BlockRecord, FuncRecord}
 use Rattle.bk_func.specs.Form.Shapes.{Gives, GivesWord, HasTypes, IsData}
 use Rattle.bk_func.specs.Form.Signatures.{Setting}
-use Rattle.bk_func.specs.Form.Text.{HasBlock, HasValue, IsEntry, IsPhi}
+use Rattle.bk_func.specs.Form.Text.{HasValue}
 use Rattle.bk_func.proofs.Faults.{In}
 use Rattle.bk_live.specs.Live.{IsOrdered}
-use Rattle.bk_sched.proofs.Lists.{to_contains, to_in}
-use Rattle.bk_alloc.specs.declared.acts.Role.{Role}
-use Rattle.bk_alloc.specs.declared.acts.Role.TheVariants.{Plain, Taken, Calls, Leaves}
-use Rattle.bk_alloc.specs.Blocks.{Next}
+use Rattle.bk_sched.proofs.Lists.{to_in}
 use Rattle.bk_alloc.specs.Placement.{has_word, has_word_of, role_by, role_of, task_of}
-use Rattle.bk_alloc.specs.Registers.{Registers, Uses, freed, is_open, put}
+use Rattle.bk_alloc.specs.Registers.{Registers, Uses, is_open, put}
 use Rattle.bk_alloc.specs.Tasks.{TaskRecord, after_task, passing}
 use Rattle.bk_alloc_quality.specs.Pressure.{AreQuiet, IsQuietAs}
 use Rattle.bk_alloc_quality.specs.Flows.{IsCalmAs}
@@ -78,7 +69,6 @@ calm_by word v op.Call w n c r l = absurd cc
 calm_by word v op.CallRegs w n c r l = absurd cc
 calm_by word v op.RetRegs w n c r l = l refl
 calm_by word v _ w n c r l = tt
-
 
 pub calm_value : (t : Target) (f : FuncRecord) (os : List (List ℕ)) → IsCallFree t f → IsOrdered f os → (word : ℕ → Bool) (b : BlockRecord) (v : ValueRecord) → HasValue f b v → ¬ TakesWord v
     → IsCalmAs (task_of word v) (role_of v)

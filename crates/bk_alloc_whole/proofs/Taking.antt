@@ -1,9 +1,7 @@
 -- Words that were passed in registers are scheduled before all values but phis.
-use Rattle.std.proofs.Common.{◌≡◌, ◌∙◌, sym, refl, ap, subst, ℕ, zero, suc, ◌+◌, ◌<◌, ◌≤◌, ◌⊎◌, inl, inr, ⊎_elim, Bool, true, false, cond, ◌||◌, ◌&&◌, not, List, [], ◌∷◌, ◌++◌, length, Option, Some, None, arith}
+use Rattle.std.proofs.Common.{◌≡◌, ◌∙◌, sym, refl, ap, subst, ℕ, ◌≤◌, ◌⊎◌, inl, inr, ⊎_elim, Bool, true, false, cond, ◌||◌, ◌&&◌, not, List, [], ◌∷◌, ◌++◌, length, Option, Some, arith}
 use Rattle.std.specs.Prelude.{IfSome}
-use Rattle.std.specs.List.{Contains}
 use Rattle.std.proofs.lemmas.Bool.{and_parts, both_ways, false≢true, or_from}
-use Rattle.bk_ops.specs.Families.{is_phi}
 use Rattle.bk_ops.specs.Table as table
 use Rattle.bk_ops.specs.Table.{info_of, is_op, row, unknown}
 use Rattle.bk_ops.specs.declared.family.Family.{Family}
@@ -18,10 +16,9 @@ use Rattle.bk_func.specs.Records.{ValueRecord, BlockRecord, FuncRecord}
 use Rattle.bk_func.specs.Form.Before.{IsLoad, IsNilCheck}
 use Rattle.bk_func.specs.Form.Parts.{HasArity}
 use Rattle.bk_func.specs.Form.Signatures.{Setting}
-use Rattle.bk_func.specs.Form.Text.{IsPhi}
 use Rattle.bk_func.proofs.Faults.{In}
 use Rattle.bk_sched.specs.Order.{ComesBefore, Precedes, are_results, is_call, is_state, argument, state, checks, needed, unneeded, right, onward}
-use Rattle.bk_sched.specs.Schedule.{IsReady, Scheduled, done, next, rank_by, rank_of, score_by}
+use Rattle.bk_sched.specs.Schedule.{IsReady, Scheduled, done, next, rank_by, rank_of}
 use Rattle.bk_sched.proofs.Keeping.{in_scheduled}
 use Rattle.bk_sched.proofs.Lists.{in_either, to_contains}
 use Rattle.bk_alloc.specs.Placement.{has_word_of}

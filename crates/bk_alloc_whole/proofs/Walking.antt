@@ -1,18 +1,18 @@
 -- A value is not live where walks lead that have not passed its definition.
-use Rattle.std.proofs.Common.{◌≡◌, ◌∙◌, sym, refl, ap, subst, ℕ, zero, suc, ◌+◌, ◌<◌, ◌≤◌, ◌⊎◌, inl, inr, ⊎_elim, List, [], ◌∷◌, ◌++◌, length, map, Option, Some, None, arith}
+use Rattle.std.proofs.Common.{◌≡◌, ◌∙◌, sym, refl, ap, subst, ℕ, zero, suc, ◌+◌, ◌<◌, ◌≤◌, ◌⊎◌, inl, inr, ⊎_elim, List, [], ◌∷◌, ◌++◌, length, map, Some, arith}
 use Rattle.std.specs.List.{Contains, slice_get}
 use Rattle.std.proofs.lemmas.Bool.{cases_lt, cases_order}
 use Rattle.std.proofs.lemmas.Option.{same_Some, slice_get_within, none-some}
 use Rattle.bk_func.specs.declared.form.FormKind.TheVariants.{Use, Order}
 use Rattle.bk_func.specs.Records.{ValueRecord, BlockRecord, FuncRecord}
 use Rattle.bk_func.specs.Form.Before as form
-use Rattle.bk_func.specs.Form.Text.{Defines, HasBlock, HasValue, IsPhi}
+use Rattle.bk_func.specs.Form.Text.{Defines, HasBlock, IsPhi}
 use Rattle.bk_func.specs.Form.Walks.{Passes, Walk, onward}
 use Rattle.bk_func.proofs.Faults.{In}
-use Rattle.bk_live.specs.Live.{HasSuccessor, IsEnd, IsEntry, IsOrdered, IsSent, IsUsedAt, IsUsedBehind, Leads, Takes, here, leave, order_at, pass}
-use Rattle.bk_live.proofs.Alone.{at_contains, contains_at, entry_alone, entry_value, value_entry}
+use Rattle.bk_live.specs.Live.{IsEnd, IsEntry, IsOrdered, IsSent, Leads, Takes, here, leave, order_at, pass}
+use Rattle.bk_live.proofs.Alone.{contains_at, entry_value, value_entry}
 use Rattle.bk_sched.specs.Order as sched
-use Rattle.bk_sched.specs.Schedule.{IsSchedule, Scheduled}
+use Rattle.bk_sched.specs.Schedule.{Scheduled}
 use Rattle.bk_sched.proofs.Keeping.{in_scheduled, keeps}
 use Rattle.bk_sched.proofs.Lists.{to_contains}
 use Rattle.bk_alloc_whole.specs.Whole.{AreScheduled}

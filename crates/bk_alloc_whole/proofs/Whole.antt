@@ -1,8 +1,8 @@
 -- A function of few live values loads nothing.
-use Rattle.std.proofs.Common.{◌≡◌, ◌∙◌, sym, refl, ap, subst, ℕ, List, [], ◌++◌, length, Option, Some, None}
+use Rattle.std.proofs.Common.{◌≡◌, ◌∙◌, sym, ap, subst, ℕ, List, [], ◌++◌, length}
 use Rattle.std.specs.List.{AllByRecursion, Contains}
 use Rattle.bk_ops.specs.declared.types.Target.{Target}
-use Rattle.bk_func.specs.Records.{BlockRecord, FuncRecord, PackageRecord, PlacedRecord}
+use Rattle.bk_func.specs.Records.{FuncRecord, PackageRecord, PlacedRecord}
 use Rattle.bk_func.specs.Form.Text.{HasBlock}
 use Rattle.bk_graph.specs.Joined.{IsJoined}
 use Rattle.bk_graph.specs.Layout.{layout_of}

@@ -1,10 +1,10 @@
 -- The words of a function, and which of them are used next.
-use Rattle.std.proofs.Common.{◌≡◌, ◌∙◌, sym, refl, ap, subst, ℕ, zero, suc, ◌+◌, ◌<◌, ◌≤◌, ◌==◌, ◌⊎◌, inl, inr, ⊎_elim, Bool, true, false, cond, List, [], ◌∷◌, ◌++◌, length, map, Option, Some, None, arith, eqb-true}
+use Rattle.std.proofs.Common.{◌≡◌, sym, refl, ap, subst, ℕ, ◌≤◌, ◌==◌, inl, inr, ⊎_elim, Bool, true, List, [], ◌∷◌, length, map, Option, Some, None, eqb-true}
 use Rattle.std.specs.Prelude.{filter, flat_map}
 use Rattle.std.specs.List.{Contains, list_any, slice_get}
 use Rattle.std.proofs.lemmas.Bool.{and_parts, or_cases, false≢true}
 use Rattle.bk_func.specs.Records.{ValueRecord, BlockRecord, FuncRecord}
-use Rattle.bk_func.specs.Form.Text.{HasBlock, HasValue}
+use Rattle.bk_func.specs.Form.Text.{HasValue}
 use Rattle.bk_func.proofs.Faults.{In, filter-in, in-filter}
 use Rattle.bk_live.specs.Live.{AllNextUses, IsLive, IsOrdered, NextUseIs, order_at}
 use Rattle.bk_sched.proofs.Lists.{in_either, in_left, in_right, to_contains, to_in}

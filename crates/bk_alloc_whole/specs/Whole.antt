@@ -1,10 +1,9 @@
 -- Functions whose values all find registers.
-use Rattle.std.specs.Prelude.{◌≡◌, ℕ, ◌+◌, ◌<◌, ◌≤◌, Bool, true, false, List, length, filter, map, Some, ◌⊎◌}
+use Rattle.std.specs.Prelude.{◌≡◌, ℕ, ◌<◌, false, List, length, filter, map, Some}
 use Rattle.std.specs.List.{Contains, flat_map, slice_get}
 use Rattle.bk_ops.specs.Families.{is_nil_check, is_word_call, is_word_result}
 use Rattle.bk_ops.specs.declared.family.Family.TheVariants as op
 use Rattle.bk_ops.specs.declared.types.Target.{Target}
-use Rattle.bk_func.specs.declared.parts.Kind.TheVariants.{If}
 use Rattle.bk_func.specs.Numbers.{natural}
 use Rattle.bk_func.specs.Records.{ValueRecord, BlockRecord, FuncRecord}
 use Rattle.bk_func.specs.Form.Text.{HasBlock, HasValue, IsEntry, IsPhi}
