@@ -27,7 +27,7 @@ use Rattle.bk_sched.proofs.Lists.{in_left, in_right, to_contains, to_in}
 use Rattle.bk_alloc.specs.Blocks.{Next, PlanRecord, PhiRecord, controls, phi_of}
 use Rattle.bk_alloc.specs.Placement.{control_of, has_word, has_word_of, is_phi_value, is_scheduled, is_word, is_word_phi, task_of}
 use Rattle.bk_alloc_quality.specs.Pressure.{AreApart, ArePassed, IsBegun, IsFlow, IsUsed, values_of}
-use Rattle.bk_alloc_whole.specs.Whole.{IsCallFree, words_of}
+use Rattle.bk_alloc_whole.specs.Whole.{IsLoweredLeaf, words_of}
 use Rattle.bk_alloc_whole.proofs.Alone.{same}
 use Rattle.bk_alloc_whole.proofs.Flowing.{Lies, back, ids, length-ids, passed_from, values_ids, apart_from}
 use Rattle.bk_alloc_whole.proofs.Words.{has_word_by, in_map, in_words, live_of, map_in, used_of}
@@ -206,7 +206,7 @@ numbered f n h =
     let (j, v, at, e) = counted_there (λ (v : ValueRecord). v.id == n) b.values l in
     (b, v, (hb, contains_at b.values j v at), eqb-true v.id n e)
 
-control_is : (t : Target) (f : FuncRecord) (os : List (List ℕ)) (next : Next) (i : ℕ) (b : BlockRecord) (ps ts : List ValueRecord) → IsCallFree t f → Lies f os next i b ps ts → (c : ℕ)
+control_is : (t : Target) (f : FuncRecord) (os : List (List ℕ)) (next : Next) (i : ℕ) (b : BlockRecord) (ps ts : List ValueRecord) → IsLoweredLeaf t f → Lies f os next i b ps ts → (c : ℕ)
     → Contains (controls (control_of b.kind b.control)) c → Contains (words_of f) c × IsUsed (next b.id (length (order_at os i))) c
 control_is t f os next i b ps ts free h c k =
     let hb : HasBlock f b = contains_at f.blocks i b h.at in
@@ -222,7 +222,7 @@ control_is t f os next i b ps ts free h c k =
 
 -- the whole block
 
-pub flows : (t : Target) (f : FuncRecord) (os : List (List ℕ)) (next : Next) (i : ℕ) (b : BlockRecord) (ps ts : List ValueRecord) → IsCallFree t f → Lies f os next i b ps ts
+pub flows : (t : Target) (f : FuncRecord) (os : List (List ℕ)) (next : Next) (i : ℕ) (b : BlockRecord) (ps ts : List ValueRecord) → IsLoweredLeaf t f → Lies f os next i b ps ts
     → IsFlow (words_of f) (next b.id) (plan_with (is_word f.blocks) b (order_at os i) (ps ++ ts))
 flows t f os next i b ps ts free h =
     let zs = ps ++ ts in

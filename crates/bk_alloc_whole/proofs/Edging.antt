@@ -29,7 +29,7 @@ use Rattle.bk_alloc.specs.Blocks.{Next, PhiRecord, phi_of, source_by, source_of}
 use Rattle.bk_alloc.specs.Placement.{has_word, has_word_of, is_phi_value, is_word, is_word_phi}
 use Rattle.bk_alloc_quality.specs.Pressure.{IsUsed}
 use Rattle.bk_alloc_quality.specs.Flows.{IsBrought}
-use Rattle.bk_alloc_whole.specs.Whole.{IsCallFree, words_of}
+use Rattle.bk_alloc_whole.specs.Whole.{IsLoweredLeaf, words_of}
 use Rattle.bk_alloc_whole.proofs.Beginning.{data_word, numbered, phi_ids, phi_is, plan_with}
 use Rattle.bk_alloc_whole.proofs.Flowing.{Lies, ids}
 use Rattle.bk_alloc_whole.proofs.Laying.{any_eq, eq_any}
@@ -94,7 +94,7 @@ arg_word : (s : Setting) (f : FuncRecord) (z u : ValueRecord) → has_word_of z.
 arg_word s f z u w (inl (m, n)) = absurd (no_word z.ty w m)
 arg_word s f z u w (inr (free, alike)) = alike_word s z.ty u.ty alike
 
-pub edge_brings : (t : Target) (f : FuncRecord) (os : List (List ℕ)) (next : Next) → IsCallFree t f → IsJoined f → (i j : ℕ) (a b : BlockRecord) (ps ts qs us : List ValueRecord) → Lies f os next i a ps ts → Lies f os next j b qs us
+pub edge_brings : (t : Target) (f : FuncRecord) (os : List (List ℕ)) (next : Next) → IsLoweredLeaf t f → IsJoined f → (i j : ℕ) (a b : BlockRecord) (ps ts qs us : List ValueRecord) → Lies f os next i a ps ts → Lies f os next j b qs us
     → Contains a.succs b.id
     → IsBrought (words_of f) next (plan_with (is_word f.blocks) a (order_at os i) (ps ++ ts)) (plan_with (is_word f.blocks) b (order_at os j) (qs ++ us))
 edge_brings t f os next free g i j a b ps ts qs us la lb succ =

@@ -32,7 +32,7 @@ use Rattle.bk_alloc_quality.specs.Pressure.{AreApart, AreQuiet}
 use Rattle.bk_alloc_quality.specs.Flows.{AreLed, IsCalmAs, IsFirst, IsNext}
 use Rattle.bk_alloc_quality.proofs.Allotting.{nothing_held}
 use Rattle.bk_alloc.specs.Placement.{registers_of}
-use Rattle.bk_alloc_whole.specs.Whole.{AreScheduled, IsCallFree, TakesWord, words_of}
+use Rattle.bk_alloc_whole.specs.Whole.{AreScheduled, IsLoweredLeaf, TakesWord, words_of}
 use Rattle.bk_alloc_whole.proofs.Beginning.{phi_in, plan_with, scheduled_rest}
 use Rattle.bk_alloc_whole.proofs.Flowing.{apart_from, ids}
 use Rattle.bk_alloc_whole.proofs.Laying.{Laid, any_eq, clear, eq_any, first, more}
@@ -44,7 +44,7 @@ use Rattle.bk_alloc_whole.proofs.Words.{in_map, live_of, map_in}
 
 -- tasks
 
-pub tasks_calm : (t : Target) (f : FuncRecord) (os : List (List ℕ)) → IsCallFree t f → IsOrdered f os → (b : BlockRecord) → HasBlock f b → (zs : List ValueRecord) → ((z : ValueRecord) → In z zs → Contains b.values z)
+pub tasks_calm : (t : Target) (f : FuncRecord) (os : List (List ℕ)) → IsLoweredLeaf t f → IsOrdered f os → (b : BlockRecord) → HasBlock f b → (zs : List ValueRecord) → ((z : ValueRecord) → In z zs → Contains b.values z)
     → ((v : ValueRecord) → HasValue f b v → ¬ TakesWord v) → (x : TaskRecord) → Contains (map (task_of (is_word f.blocks)) (filter is_scheduled zs)) x → IsCalmAs x x.role
 tasks_calm t f os free o b hb zs inside none x c =
     let word = is_word f.blocks in
@@ -83,7 +83,7 @@ early_takes v n r (inr (inr e)) = absurd (let q : true ≡ false = sym (ap is_wo
 mid_in : (pre : List ValueRecord) (v : ValueRecord) (post : List ValueRecord) → In v (pre ++ v ∷ post)
 mid_in pre v post = in_right v pre (v ∷ post) (inl refl)
 
-pub taken : (t : Target) (f : FuncRecord) (os : List (List ℕ)) (next : Next) → IsCallFree t f → IsOrdered f os → (b : BlockRecord) → IsEntry f b → (zs : List ValueRecord) → ((z : ValueRecord) → In z zs → Contains b.values z)
+pub taken : (t : Target) (f : FuncRecord) (os : List (List ℕ)) (next : Next) → IsLoweredLeaf t f → IsOrdered f os → (b : BlockRecord) → IsEntry f b → (zs : List ValueRecord) → ((z : ValueRecord) → In z zs → Contains b.values z)
     → Scheduled b b.values zs → AreApart (ids zs) → (rs : Registers) → length rs ≡ length (registers_of t) → ((q : ℕ) → is_open (get_or rs q None) ≡ true) → AreTaken (is_word f.blocks) zs rs
 taken t f os next free o b e zs inside sch apart rs size opened =
     let hb : HasBlock f b = contains_at f.blocks 0 b e in
@@ -131,7 +131,7 @@ no_block c (k, l, e) = omega (arith, l)
 
 -- the entry
 
-pub entry_first : (t : Target) (f : FuncRecord) (os : List (List ℕ)) (next : Next) → IsCallFree t f → IsOrdered f os → AreScheduled f os → AllNextUses f os next → (b : BlockRecord) → IsEntry f b → (k : Block f os next 0 b)
+pub entry_first : (t : Target) (f : FuncRecord) (os : List (List ℕ)) (next : Next) → IsLoweredLeaf t f → IsOrdered f os → AreScheduled f os → AllNextUses f os next → (b : BlockRecord) → IsEntry f b → (k : Block f os next 0 b)
     → IsFirst (length (registers_of t)) (words_of f) next [] (plan_with (is_word f.blocks) b (order_at os 0) (k.ps ++ k.ts))
 entry_first t f os next free o sc a b e k =
     let word = is_word f.blocks in
@@ -195,7 +195,7 @@ ids_have f os o g ns a ha c =
     let j : In p (laid_out f.blocks ns os) = in_planned (planned f.blocks os) ns a.id p (to_in a.id ns c) (planned_at f os o g i a at) in
     to_contains a.id (map (λ (q : PlanRecord). q.id) (laid_out f.blocks ns os)) (in_map (λ (q : PlanRecord). q.id) (laid_out f.blocks ns os) p j)
 
-pub led : (t : Target) (f : FuncRecord) (os : List (List ℕ)) (next : Next) → IsCallFree t f → IsOrdered f os → IsJoined f → AreScheduled f os → AllNextUses f os next → (ns : List ℕ) → Laid f ns
+pub led : (t : Target) (f : FuncRecord) (os : List (List ℕ)) (next : Next) → IsLoweredLeaf t f → IsOrdered f os → IsJoined f → AreScheduled f os → AllNextUses f os next → (ns : List ℕ) → Laid f ns
     → AreLed (length (registers_of t)) (words_of f) next [] (laid_out f.blocks ns os)
 unfolding AreLed
 led t f os next free o g sc a _ (first b e) =

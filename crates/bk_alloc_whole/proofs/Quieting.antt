@@ -27,7 +27,7 @@ use Rattle.bk_alloc_quality.specs.Pressure.{AreQuiet, IsQuietAs}
 use Rattle.bk_alloc_quality.specs.Flows.{IsCalmAs}
 use Rattle.bk_alloc_quality.proofs.Allotting.{calm_quiet}
 use Rattle.bk_alloc.specs.Tasks.{after_role}
-use Rattle.bk_alloc_whole.specs.Whole.{IsCallFree, TakesWord}
+use Rattle.bk_alloc_whole.specs.Whole.{IsLoweredLeaf, TakesWord}
 use Rattle.bk_alloc_whole.proofs.Beginning.{data_word}
 use Rattle.bk_alloc_whole.proofs.Words.{map_in}
 
@@ -70,7 +70,7 @@ calm_by word v op.CallRegs w n c r l = absurd cc
 calm_by word v op.RetRegs w n c r l = l refl
 calm_by word v _ w n c r l = tt
 
-pub calm_value : (t : Target) (f : FuncRecord) (os : List (List ℕ)) → IsCallFree t f → IsOrdered f os → (word : ℕ → Bool) (b : BlockRecord) (v : ValueRecord) → HasValue f b v → ¬ TakesWord v
+pub calm_value : (t : Target) (f : FuncRecord) (os : List (List ℕ)) → IsLoweredLeaf t f → IsOrdered f os → (word : ℕ → Bool) (b : BlockRecord) (v : ValueRecord) → HasValue f b v → ¬ TakesWord v
     → IsCalmAs (task_of word v) (role_of v)
 calm_value t f os free o word b v hv n =
     let types = (o.formed.kinds Typed b hv.0).value v hv.1 in

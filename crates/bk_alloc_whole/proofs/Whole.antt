@@ -15,14 +15,14 @@ use Rattle.bk_alloc_quality.specs.Pressure.{IsFlow}
 use Rattle.bk_alloc_quality.specs.Flows.{AreFlows, IsBrought, UsesNoSlot}
 use Rattle.bk_alloc_quality.proofs.Homeless.{no_slots}
 use Rattle.bk_alloc_quality.proofs.Whole.{no_values_in_slots, steps_use_none}
-use Rattle.bk_alloc_whole.specs.Whole.{AreScheduled, HasFewLive, IsCallFree, words_of}
+use Rattle.bk_alloc_whole.specs.Whole.{AreScheduled, HasFewLive, IsLoweredLeaf, words_of}
 use Rattle.bk_alloc_whole.proofs.Beginning.{flows, plan_with}
 use Rattle.bk_alloc_whole.proofs.Edging.{edge_brings}
 use Rattle.bk_alloc_whole.proofs.Laying.{any_eq, eq_any, laid}
 use Rattle.bk_alloc_whole.proofs.Leading.{led}
 use Rattle.bk_alloc_whole.proofs.Planning.{Comes, comes}
 
-pub are_flows : (t : Target) (f : FuncRecord) (os : List (List ℕ)) (next : Next) → IsCallFree t f → IsOrdered f os → IsJoined f → AreScheduled f os → AllNextUses f os next
+pub are_flows : (t : Target) (f : FuncRecord) (os : List (List ℕ)) (next : Next) → IsLoweredLeaf t f → IsOrdered f os → IsJoined f → AreScheduled f os → AllNextUses f os next
     → AreFlows (length (registers_of t)) (words_of f) next (laid_out f.blocks (layout_of f) os)
 are_flows t f os next free o g sc a =
     let l = laid f os o g in
@@ -59,7 +59,7 @@ pub record UsesNoSlots (r : PlacedRecord) : Type 0 where
   pub steps : AllByRecursion (λ b. AllByRecursion UsesNoSlot b.steps) r.blocks
   pub slots : r.slots ≡ 0
 
-pub uses_none : (t : Target) (pkg : PackageRecord) (f : FuncRecord) (os : List (List ℕ)) (next : Next) (r : PlacedRecord) → IsOrdered f os → IsJoined f → AreScheduled f os → AllNextUses f os next → IsCallFree t f
+pub uses_none : (t : Target) (pkg : PackageRecord) (f : FuncRecord) (os : List (List ℕ)) (next : Next) (r : PlacedRecord) → IsOrdered f os → IsJoined f → AreScheduled f os → AllNextUses f os next → IsLoweredLeaf t f
     → HasFewLive t next f os → IsPlacement next t pkg f (layout_of f) os r → UsesNoSlots r
 uses_none t pkg f os next r o g sc a free few place =
     let ps = allotted next t f (layout_of f) os in

@@ -34,9 +34,9 @@ TakesWord v = v.op.family ≡ op.ArgReg
 abbrev pub HasFewLive : Target → Next → FuncRecord → List (List ℕ) → Type 0
 HasFewLive t next f orders = (b : PlanRecord) → Contains (laid_out f.blocks (layout_of f) orders) b → IsLow (length (registers_of t)) (words_of f) (next b.id) b
 
--- what a lowered function without calls has: no value is a call or a result of one; words that were passed in registers are taken in the entry, each
--- by one value, and find a register of their own; a nil check is no phi's argument and no control
-pub record IsCallFree (t : Target) (f : FuncRecord) : Type 0 where
+-- what a lowered function without calls has: no value is a call or a result of one; words that were passed in registers are taken
+-- in the entry, each by one value and from a register that there is; no phi takes a nil check, and no block goes by one
+pub record IsLoweredLeaf (t : Target) (f : FuncRecord) : Type 0 where
   pub calls : (b : BlockRecord) (v : ValueRecord) → HasValue f b v → (is_word_call v.op.family ≡ false) × (is_word_result v.op.family ≡ false)
   pub entry : (b : BlockRecord) (v : ValueRecord) → HasValue f b v → TakesWord v → IsEntry f b
   pub once : (b c : BlockRecord) (u v : ValueRecord) → HasValue f b u → HasValue f c v → TakesWord u → TakesWord v → natural u.int ≡ natural v.int → u.id ≡ v.id

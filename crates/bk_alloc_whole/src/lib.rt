@@ -12,7 +12,7 @@ ghost use Rattle.bk_live.specs.Live.{AllNextUses, IsLive, IsOrdered};
 ghost use Rattle.bk_alloc.specs.Blocks.{Next};
 ghost use Rattle.bk_alloc.specs.Placement.{IsPlacement};
 ghost use Rattle.bk_alloc_quality.specs.Flows.{UsesNoSlot};
-ghost use Rattle.bk_alloc_whole.specs.Whole.{AreScheduled, HasFewLive, IsCallFree};
+ghost use Rattle.bk_alloc_whole.specs.Whole.{AreScheduled, HasFewLive, IsLoweredLeaf};
 
 /// A law: a value is not live where a block begins to which a walk leads that has not passed its definition.
 pub fn unpassed_values_are_dead()
@@ -22,6 +22,6 @@ pub fn unpassed_values_are_dead()
 /// A law: a placed function without calls, whose pressure is nowhere over the count of the target's registers, has no load, no
 /// store and no slot.
 pub fn low_pressure_loads_nothing()
-    ensures steps { (t : Target) (pkg : PackageRecord) (f : FuncRecord) (orders : List (List ℕ)) (next : Next) (placed : PlacedRecord) → IsOrdered f orders → IsJoined f → AreScheduled f orders → AllNextUses f orders next → IsCallFree t f → HasFewLive t next f orders → IsPlacement next t pkg f (layout_of f) orders placed → AllByRecursion (λ b. AllByRecursion UsesNoSlot b.steps) placed.blocks }
-    ensures slots { (t : Target) (pkg : PackageRecord) (f : FuncRecord) (orders : List (List ℕ)) (next : Next) (placed : PlacedRecord) → IsOrdered f orders → IsJoined f → AreScheduled f orders → AllNextUses f orders next → IsCallFree t f → HasFewLive t next f orders → IsPlacement next t pkg f (layout_of f) orders placed → placed.slots ≡ 0 }
+    ensures steps { (t : Target) (pkg : PackageRecord) (f : FuncRecord) (orders : List (List ℕ)) (next : Next) (placed : PlacedRecord) → IsOrdered f orders → IsJoined f → AreScheduled f orders → AllNextUses f orders next → IsLoweredLeaf t f → HasFewLive t next f orders → IsPlacement next t pkg f (layout_of f) orders placed → AllByRecursion (λ b. AllByRecursion UsesNoSlot b.steps) placed.blocks }
+    ensures slots { (t : Target) (pkg : PackageRecord) (f : FuncRecord) (orders : List (List ℕ)) (next : Next) (placed : PlacedRecord) → IsOrdered f orders → IsJoined f → AreScheduled f orders → AllNextUses f orders next → IsLoweredLeaf t f → HasFewLive t next f orders → IsPlacement next t pkg f (layout_of f) orders placed → placed.slots ≡ 0 }
 {}
