@@ -1,0 +1,11 @@
+pub mod Results
+pub mod Paths
+pub mod Words
+pub mod Constants
+pub mod Families
+pub mod Units
+pub mod Effects
+pub mod Pieces
+pub mod Below
+pub mod Slots
+pub mod Sequences

@@ -1,0 +1,6 @@
+pub mod Leaving
+pub mod Does
+pub mod Windows
+pub mod Octets
+pub mod Frames
+pub mod Steps

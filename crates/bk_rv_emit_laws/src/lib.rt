@@ -1,0 +1,46 @@
+//! Laws of the code of riscv64: what the machine does where the instructions of units, steps and ends of blocks stand.
+#![tactic(auto)]
+
+ghost use Rattle.std.specs.Prelude.{ℕ};
+ghost use Rattle.bk_ops.specs.declared.family.RvOp.{RvOp};
+ghost use Rattle.bk_rv_emit_laws.specs.Does.{UnitDoes, ConstDoes, AddrDoes};
+ghost use Rattle.bk_rv_emit_laws.specs.Octets.{LoadsAreBelow, StoresAreBytes};
+ghost use Rattle.bk_rv_emit_laws.specs.Steps.{ValueMakes, LoadMakes, StoreMakes, MoveMakes, ComputeMakes, StepsMake};
+ghost use Rattle.bk_rv_emit_laws.specs.Windows.{IsSize, LoadDoes, StoreDoes, StoreBoolDoes, CheckPasses, CheckTraps, TrapDoes, ZeroDoes};
+
+/// A law: where the unit of a pure op stands, the machine goes through it and leaves the op's value in the unit's register; so do
+/// the units of constants and addresses.
+pub fn units_compute()
+    ensures ops { (o : RvOp) → UnitDoes o }
+    ensures constants { ConstDoes }
+    ensures addresses { AddrDoes }
+{}
+
+/// A law: in the data window loads read what stands there, stores of words and bits and zeros leave what the meaning says, and
+/// checks and traps go on or trap with their numbers.
+pub fn units_reach_memory()
+    ensures loads { (w : ℕ) → IsSize w → LoadDoes w }
+    ensures stores { (w : ℕ) → IsSize w → StoreDoes w }
+    ensures bools { StoreBoolDoes }
+    ensures passes { CheckPasses }
+    ensures fails { CheckTraps }
+    ensures traps { TrapDoes }
+    ensures zeros { ZeroDoes }
+{}
+
+/// A law: a number that is loaded from bytes is below 256 to their count, and a store leaves bytes.
+pub fn windows_are_bytes()
+    ensures loads { LoadsAreBelow }
+    ensures stores { StoresAreBytes }
+{}
+
+/// A law: the lines of a step do to the registers and words of a frame what the step says, loads and stores near the stack pointer
+/// and far from it, moves, and what units compute; and steps do so one behind the other.
+pub fn steps_move_values()
+    ensures values { ValueMakes }
+    ensures loads { LoadMakes }
+    ensures stores { StoreMakes }
+    ensures moves { MoveMakes }
+    ensures computes { ComputeMakes }
+    ensures sequences { StepsMake }
+{}
