@@ -8,4 +8,5 @@ pub mod Effects
 pub mod Pieces
 pub mod Below
 pub mod Slots
+pub mod Far
 pub mod Sequences

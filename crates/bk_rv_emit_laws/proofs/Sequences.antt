@@ -23,7 +23,8 @@ use Rattle.bk_rv_emit_laws.specs.Leaving.{Leaves}
 use Rattle.bk_rv_emit_laws.specs.Does.{AreFree}
 use Rattle.bk_rv_emit_laws.specs.Frames.{IsHome, IsFrame, Holds, set}
 use Rattle.bk_rv_emit_laws.specs.Steps.{Makes, AreHomes, ComputeMakes, StepsMake}
-use Rattle.bk_rv_emit_laws.proofs.Slots.{value_makes, then_leads, behind, map-append}
+use Rattle.bk_rv_emit_laws.proofs.Slots.{value_makes, then_leads}
+use Rattle.bk_rv_emit_laws.proofs.Far.{behind, map-append}
 use Rattle.bk_rv_emit_laws.proofs.Units.{unit_does}
 
 tested : {A : Type 0} (b : Bool) (x : Option A) (i : A) → cond b x None ≡ Some i → (b ≡ true) × (x ≡ Some i)

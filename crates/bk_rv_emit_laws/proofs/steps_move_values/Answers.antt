@@ -1,4 +1,5 @@
-use Rattle.bk_rv_emit_laws.proofs.Slots.{value_makes, load_makes, store_makes, move_makes}
+use Rattle.bk_rv_emit_laws.proofs.Slots.{value_makes}
+use Rattle.bk_rv_emit_laws.proofs.Far.{load_makes, store_makes, move_makes}
 use Rattle.bk_rv_emit_laws.proofs.Sequences.{compute_makes, steps_make}
 use Rattle.bk_rv_emit_laws.proofs.steps_move_values.Goals as goal
 
