@@ -10,3 +10,7 @@ pub mod Below
 pub mod Slots
 pub mod Far
 pub mod Sequences
+pub mod Turns
+pub mod Entry
+pub mod Leave
+pub mod Reach

@@ -4,3 +4,5 @@ pub mod Windows
 pub mod Octets
 pub mod Frames
 pub mod Steps
+pub mod Jumps
+pub mod Calls
