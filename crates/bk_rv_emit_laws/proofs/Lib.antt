@@ -14,3 +14,7 @@ pub mod Turns
 pub mod Entry
 pub mod Leave
 pub mod Reach
+pub mod Standing
+pub mod Coming
+pub mod Places
+pub mod Cutting

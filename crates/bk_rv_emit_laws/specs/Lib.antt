@@ -6,3 +6,5 @@ pub mod Frames
 pub mod Steps
 pub mod Jumps
 pub mod Calls
+pub mod Ends
+pub mod Cuts

@@ -4,7 +4,9 @@
 ghost use Rattle.std.specs.Prelude.{ℕ};
 ghost use Rattle.bk_ops.specs.declared.family.RvOp.{RvOp};
 ghost use Rattle.bk_rv_emit_laws.specs.Calls.{EntryEnters, EntryTraps, LeaveReturns, CallCalls};
+ghost use Rattle.bk_rv_emit_laws.specs.Cuts.{LinesCut, WordsCut, InstsStand};
 ghost use Rattle.bk_rv_emit_laws.specs.Does.{UnitDoes, ConstDoes, AddrDoes};
+ghost use Rattle.bk_rv_emit_laws.specs.Ends.{SizesReach, JumpComes, BranchComes};
 ghost use Rattle.bk_rv_emit_laws.specs.Jumps.{JumpGoes, BranchGoes, JumpFits, BranchFits};
 ghost use Rattle.bk_rv_emit_laws.specs.Octets.{LoadsAreBelow, StoresAreBytes};
 ghost use Rattle.bk_rv_emit_laws.specs.Steps.{ValueMakes, LoadMakes, StoreMakes, MoveMakes, ComputeMakes, StepsMake};
@@ -64,4 +66,19 @@ pub fn calls_begin_and_end()
     ensures exhausted { EntryTraps }
     ensures endings { LeaveReturns }
     ensures calls { CallCalls }
+{}
+
+/// A law: lines stand one behind the other, and where the words of lines that are instructions stand, the instructions do.
+pub fn lines_stand()
+    ensures lines { LinesCut }
+    ensures words { WordsCut }
+    ensures instructions { InstsStand }
+{}
+
+/// A law: where the words of a block's end stand, with sizes that reach, the machine comes to the block that is chosen, in one step at
+/// least where that does not stand next; the least sizes of a function's branches reach.
+pub fn ends_come_to_blocks()
+    ensures sizes { SizesReach }
+    ensures jumps { JumpComes }
+    ensures branches { BranchComes }
 {}
