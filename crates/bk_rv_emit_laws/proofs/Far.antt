@@ -31,7 +31,7 @@ use Rattle.bk_rv_emit_laws.proofs.Slots.{near_load, near_store, word_by, word_in
 one_apart : (r : ℕ) → IsHome r → r ≢ 1
 one_apart r h = h.return
 
-long_word : (sp o : ℕ) → sp + o < 2 ^ 32 → o < 2 ^ 30 → plus ((residue 64 (upper (pos o) *ℤ pos (2 ^ 12)) + sp) % 2 ^ 64) (lower (pos o)) ≡ sp + o
+pub long_word : (sp o : ℕ) → sp + o < 2 ^ 32 → o < 2 ^ 30 → plus ((residue 64 (upper (pos o) *ℤ pos (2 ^ 12)) + sp) % 2 ^ 64) (lower (pos o)) ≡ sp + o
 long_word sp o h k =
     let e : o % 2 ^ 32 ≡ o = omega arith in
     ap (λ n. ((residue 64 (signed 20 ((n + 2048) / 2 ^ 12) *ℤ pos (2 ^ 12)) + sp) % 2 ^ 64 + residue 64 (signed 12 n)) % 2 ^ 64) e
@@ -40,37 +40,38 @@ long_word sp o h k =
     summed : (u l sp o : ℕ) → sp + o < 2 ^ 32 → (u + l) % 2 ^ 64 ≡ o → ((u + sp) % 2 ^ 64 + l) % 2 ^ 64 ≡ sp + o
     summed u l sp o h e = omega arith
 
--- the upper part of a long offset and the stack pointer in x1
-long_base : ℕ → List Inst
-long_base o = i.Lui 1 (upper (pos o)) ∷ i.Op Add 1 1 2 ∷ []
+-- the upper part of a long offset and the stack pointer in a register
+unfoldable pub long_base : ℕ → ℕ → List Inst
+long_base t o = i.Lui t (upper (pos o)) ∷ i.Op Add t t 2 ∷ []
 
-base_leaves : (o : ℕ) (m : Machine) → IsWell m → HasAt m.text m.pc (long_base o) →
-    (l : Leaves (long_base o) m 1 ((residue 64 (upper (pos o) *ℤ pos (2 ^ 12)) + reg m.regs 2) % 2 ^ 64)) × ((r : ℕ) → r ≢ 1 → reg l.after.regs r ≡ reg m.regs r)
+pub base_leaves : (t o : ℕ) (m : Machine) → IsWell m → P.IsTarget t t → (let k : ℕ = 2 in k ≢ t) → HasAt m.text m.pc (long_base t o) →
+    (l : Leaves (long_base t o) m t ((residue 64 (upper (pos o) *ℤ pos (2 ^ 12)) + reg m.regs 2) % 2 ^ 64)) × ((r : ℕ) → r ≢ t → reg l.after.regs r ≡ reg m.regs r)
 unfolding long_base
-base_leaves o m w c =
+base_leaves t o m w g two c =
     let z = upper (pos o) *ℤ pos (2 ^ 12) in
     let u = residue 64 z in
     let v = (u + reg m.regs 2) % 2 ^ 64 in
-    let m1 = with_reg m 1 u in
-    let t : P.IsTarget 1 1 = record { some = λ e. omega (arith, e); low = omega arith; is = inl refl } in
-    let two_one : let k : ℕ = 2 in k ≢ 1 = λ e. omega (arith, e) in
-    let p0 = P.here 1 m w in
-    let p1 = P.write 1 m m 1 u (i.Lui 1 (upper (pos o))) p0 c.0 refl (residue_below 64 z) t in
-    let p2 = P.op 1 m m1 Add 1 1 2 u (reg m.regs 2) v p1 c.1.0 (P.last 1 m m 1 u p0 t.some t.low) (P.reg_other m.regs 1 2 u two_one) refl t in (
-      record { after = with_reg m1 1 v; path = p2; pc = omega arith; value = P.last 1 m m1 1 v p1 t.some t.low },
-      λ r h. P.reg_other m1.regs 1 r v h ∙ P.reg_other m.regs 1 r u h,
+    let m1 = with_reg m t u in
+    let p0 = P.here t m w in
+    let p1 = P.write t m m t u (i.Lui t (upper (pos o))) p0 c.0 refl (residue_below 64 z) g in
+    let p2 = P.op t m m1 Add t t 2 u (reg m.regs 2) v p1 c.1.0 (P.last t m m t u p0 g.some g.low) (P.reg_other m.regs t 2 u two) refl g in (
+      record { after = with_reg m1 t v; path = p2; pc = omega arith; value = P.last t m m1 t v p1 g.some g.low },
+      λ r h. P.reg_other m1.regs t r v h ∙ P.reg_other m.regs t r u h,
     )
 
+first_target : P.IsTarget 1 1
+first_target = record { some = λ e. omega (arith, e); low = omega arith; is = inl refl }
+
 record Based (f : Frame) (sp o : ℕ) (m : Machine) (s : Spot → ℕ) : Type 0 where
-  leads : Leads f sp (long_base o) m s
+  leads : Leads f sp (long_base 1 o) m s
   base : reg leads.after.regs 1 ≡ (residue 64 (upper (pos o) *ℤ pos (2 ^ 12)) + sp) % 2 ^ 64
   others : (r : ℕ) → r ≢ 1 → reg leads.after.regs r ≡ reg m.regs r
 
-base_leads : (f : Frame) (sp o : ℕ) (m : Machine) (s : Spot → ℕ) → IsFrame f sp m → Holds f sp m s → HasAt m.text m.pc (long_base o) → Based f sp o m s
+base_leads : (f : Frame) (sp o : ℕ) (m : Machine) (s : Spot → ℕ) → IsFrame f sp m → Holds f sp m s → HasAt m.text m.pc (long_base 1 o) → Based f sp o m s
 base_leads f sp o m s g h c =
     let z = upper (pos o) *ℤ pos (2 ^ 12) in
-    let b = base_leaves o m g.well c in
-    let x = scratch_leads f sp 1 ((residue 64 z + reg m.regs 2) % 2 ^ 64) (long_base o) m s one_apart (λ e. omega (arith, e)) (λ e. omega (arith, e)) g h b.0 in
+    let b = base_leaves 1 o m g.well first_target (λ e. omega (arith, e)) c in
+    let x = scratch_leads f sp 1 ((residue 64 z + reg m.regs 2) % 2 ^ 64) (long_base 1 o) m s one_apart (λ e. omega (arith, e)) (λ e. omega (arith, e)) g h b.0 in
     record {
       leads = x.0;
       base = x.1 ∙ ap (λ k. (residue 64 z + k) % 2 ^ 64) g.pointer;
@@ -102,34 +103,34 @@ far_word : (f : Frame) (sp r n v : ℕ) (m : Machine) → IsFrame f sp m → n �
 unfolding far_load
 far_word f sp r n v m g l b e w lt t c = word_by f sp r 1 n v (lower (pos (8 * (f.out + n)))) m g w lt t (long_at f sp n m g l e b) c
 
-far_load_makes : (f : Frame) (s : Spot → ℕ) (r n : ℕ) → IsHome r → n ≤ f.slots → f.bytes < 2 ^ 30 → Makes f (long_base (8 * (f.out + n)) ++ far_load f r n) s (set s (Register r) (s (Word n)))
+far_load_makes : (f : Frame) (s : Spot → ℕ) (r n : ℕ) → IsHome r → n ≤ f.slots → f.bytes < 2 ^ 30 → Makes f (long_base 1 (8 * (f.out + n)) ++ far_load f r n) s (set s (Register r) (s (Word n)))
 far_load_makes f s r n home l b sp m g h c =
     let o = 8 * (f.out + n) in
-    let x = base_leads f sp o m s g h (has_front (long_base o) (far_load f r n) m.text m.pc c) in
+    let x = base_leads f sp o m s g h (has_front (long_base 1 o) (far_load f r n) m.text m.pc c) in
     let y = x.leads in
-    let d = behind f sp (long_base o) (far_load f r n) m s y c in
-    then_leads f sp (long_base o) (far_load f r n) m s (set s (Register r) (s (Word n))) y
+    let d = behind f sp (long_base 1 o) (far_load f r n) m s y c in
+    then_leads f sp (long_base 1 o) (far_load f r n) m s (set s (Register r) (s (Word n))) y
     (value_makes f s (far_load f r n) sp r (s (Word n)) y.after home y.frame y.holds
     (far_word f sp r n (s (Word n)) y.after y.frame l b x.base (y.holds.words n l) (y.holds.fit n l) (P.result r home.place) d))
 
 far_store_leads : (f : Frame) (sp r n v : ℕ) (m : Machine) (s : Spot → ℕ) → IsFrame f sp m → Holds f sp m s → n ≤ f.slots → f.bytes < 2 ^ 30 → r ≢ 1 → reg m.regs r ≡ v →
-    HasAt m.text m.pc (long_base (8 * (f.out + n)) ++ far_store f r n) → Leads f sp (long_base (8 * (f.out + n)) ++ far_store f r n) m (set s (Word n) v)
+    HasAt m.text m.pc (long_base 1 (8 * (f.out + n)) ++ far_store f r n) → Leads f sp (long_base 1 (8 * (f.out + n)) ++ far_store f r n) m (set s (Word n) v)
 unfolding far_store
 far_store_leads f sp r n v m s g h l b apart e c =
     let o = 8 * (f.out + n) in
-    let x = base_leads f sp o m s g h (has_front (long_base o) (far_store f r n) m.text m.pc c) in
+    let x = base_leads f sp o m s g h (has_front (long_base 1 o) (far_store f r n) m.text m.pc c) in
     let y = x.leads in
-    let d = behind f sp (long_base o) (far_store f r n) m s y c in
-    then_leads f sp (long_base o) (far_store f r n) m s (set s (Word n) v) y
+    let d = behind f sp (long_base 1 o) (far_store f r n) m s y c in
+    then_leads f sp (long_base 1 o) (far_store f r n) m s (set s (Word n) v) y
     (store_by f sp r 1 n v (lower (pos o)) y.after s y.frame y.holds l (x.others r apart ∙ e) (long_at f sp n y.after y.frame l x.base b) d)
 
 -- both forms, by a test
 
 form_load : Bool → Frame → ℕ → ℕ → List Inst
-form_load t f r n = cond t (near_load f r n) (long_base (8 * (f.out + n)) ++ far_load f r n)
+form_load t f r n = cond t (near_load f r n) (long_base 1 (8 * (f.out + n)) ++ far_load f r n)
 
 form_store : Bool → Frame → ℕ → ℕ → List Inst
-form_store t f r n = cond t (near_store f r n) (long_base (8 * (f.out + n)) ++ far_store f r n)
+form_store t f r n = cond t (near_store f r n) (long_base 1 (8 * (f.out + n)) ++ far_store f r n)
 
 load_is : (f : Frame) (r n : ℕ) → load_at r (8 * (f.out + n)) ≡ form_load (is_near (8 * (f.out + n))) f r n
 unfolding form_load near_load long_base far_load
@@ -169,12 +170,12 @@ scratch_word true f sp n m s g h l b c =
     (x.0, x.1)
 scratch_word false f sp n m s g h l b c =
     let o = 8 * (f.out + n) in
-    let x = base_leads f sp o m s g h (has_front (long_base o) (far_load f 31 n) m.text m.pc c) in
+    let x = base_leads f sp o m s g h (has_front (long_base 1 o) (far_load f 31 n) m.text m.pc c) in
     let y = x.leads in
-    let d = behind f sp (long_base o) (far_load f 31 n) m s y c in
+    let d = behind f sp (long_base 1 o) (far_load f 31 n) m s y c in
     let z = scratch_leads f sp 31 (s (Word n)) (far_load f 31 n) y.after s (λ r q. q.place.free) (λ e. omega (arith, e)) (λ e. omega (arith, e)) y.frame y.holds
     (far_word f sp 31 n (s (Word n)) y.after y.frame l b x.base (y.holds.words n l) (y.holds.fit n l) (P.scratch 31) d) in
-    (then_leads f sp (long_base o) (far_load f 31 n) m s s y z.0, z.1)
+    (then_leads f sp (long_base 1 o) (far_load f 31 n) m s s y z.0, z.1)
 
 word_move : (f : Frame) (s : Spot → ℕ) (a b : ℕ) → a ≤ f.slots → b ≤ f.slots → f.bytes < 2 ^ 30 →
     Makes f (form_load (is_near (8 * (f.out + a))) f 31 a ++ form_store (is_near (8 * (f.out + b))) f 31 b) s (set s (Word b) (s (Word a)))

@@ -10,3 +10,11 @@ pub mod Below
 pub mod Slots
 pub mod Far
 pub mod Sequences
+pub mod Turns
+pub mod Entry
+pub mod Leave
+pub mod Reach
+pub mod Standing
+pub mod Coming
+pub mod Places
+pub mod Cutting

@@ -4,3 +4,7 @@ pub mod Windows
 pub mod Octets
 pub mod Frames
 pub mod Steps
+pub mod Jumps
+pub mod Calls
+pub mod Ends
+pub mod Cuts

@@ -3,7 +3,11 @@
 
 ghost use Rattle.std.specs.Prelude.{ℕ};
 ghost use Rattle.bk_ops.specs.declared.family.RvOp.{RvOp};
+ghost use Rattle.bk_rv_emit_laws.specs.Calls.{EntryEnters, EntryTraps, LeaveReturns, CallCalls};
+ghost use Rattle.bk_rv_emit_laws.specs.Cuts.{LinesCut, WordsCut, InstsStand};
 ghost use Rattle.bk_rv_emit_laws.specs.Does.{UnitDoes, ConstDoes, AddrDoes};
+ghost use Rattle.bk_rv_emit_laws.specs.Ends.{SizesReach, JumpComes, BranchComes};
+ghost use Rattle.bk_rv_emit_laws.specs.Jumps.{JumpGoes, BranchGoes, JumpFits, BranchFits};
 ghost use Rattle.bk_rv_emit_laws.specs.Octets.{LoadsAreBelow, StoresAreBytes};
 ghost use Rattle.bk_rv_emit_laws.specs.Steps.{ValueMakes, LoadMakes, StoreMakes, MoveMakes, ComputeMakes, StepsMake};
 ghost use Rattle.bk_rv_emit_laws.specs.Windows.{IsSize, LoadDoes, StoreDoes, StoreBoolDoes, CheckPasses, CheckTraps, TrapDoes, ZeroDoes};
@@ -43,4 +47,38 @@ pub fn steps_move_values()
     ensures moves { MoveMakes }
     ensures computes { ComputeMakes }
     ensures sequences { StepsMake }
+{}
+
+/// A law: a jump of any form goes to its place, and a branch where what was tested is so, else behind itself; the fields of a form
+/// that reaches from one place to another fit.
+pub fn jumps_arrive()
+    ensures jumps { JumpGoes }
+    ensures branches { BranchGoes }
+    ensures jumps_fit { JumpFits }
+    ensures branches_fit { BranchFits }
+{}
+
+/// A law: what a function begins with makes its frame and saves the return address where the stack that is left has room for it,
+/// else it traps 5; what it ends with gives the frame back and is at the return address; a call is at the callee, with the address
+/// behind it in x1.
+pub fn calls_begin_and_end()
+    ensures entries { EntryEnters }
+    ensures exhausted { EntryTraps }
+    ensures endings { LeaveReturns }
+    ensures calls { CallCalls }
+{}
+
+/// A law: lines stand one behind the other, and where the words of lines that are instructions stand, the instructions do.
+pub fn lines_stand()
+    ensures lines { LinesCut }
+    ensures words { WordsCut }
+    ensures instructions { InstsStand }
+{}
+
+/// A law: where the words of a block's end stand, with sizes that reach, the machine comes to the block that is chosen, in one step at
+/// least where that does not stand next; the least sizes of a function's branches reach.
+pub fn ends_come_to_blocks()
+    ensures sizes { SizesReach }
+    ensures jumps { JumpComes }
+    ensures branches { BranchComes }
 {}
