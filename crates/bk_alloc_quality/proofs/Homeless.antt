@@ -11,7 +11,7 @@ none_at_all : (hs : List ℕ) → ((v : ℕ) → Contains hs v → ⊥) → leng
 none_at_all [] h = refl
 none_at_all (x ∷ hs) h = absurd (h x (0, omega arith, refl))
 
-nowhere : (v : ℕ) → Contains {X = ℕ} [] v → ⊥
+pub nowhere : (v : ℕ) → Contains {X = ℕ} [] v → ⊥
 nowhere v c = let l = c.1 in absurd (omega (arith, l))
 
 pub no_slots : (t : Target) (ps : List PartRecord) (bs : List PlacedBlockRecord) (slots : ℕ) → IsPlacing t ps bs slots → values_in_slots ps ≡ [] → slots ≡ 0

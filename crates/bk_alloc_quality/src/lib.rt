@@ -5,11 +5,12 @@ ghost use Rattle.std.specs.Prelude.{◌≡◌, ◌≤◌, ◌<◌, ◌+◌, ◌|
 ghost use Rattle.std.specs.List.{AllByRecursion, Contains};
 ghost use Rattle.bk_ops.specs.declared.types.Target.{Target};
 ghost use Rattle.bk_func.specs.Records.{PlacedBlockRecord};
-ghost use Rattle.bk_alloc.specs.Blocks.{begun, block_acts, last_map, PartRecord, phis_of, PlanRecord};
+ghost use Rattle.bk_alloc.specs.Blocks.{allot, begun, block_acts, last_map, moves_into, Next, PartRecord, phis_of, PlanRecord};
 ghost use Rattle.bk_alloc.specs.Placement.{IsPlacing};
-ghost use Rattle.bk_alloc.specs.Placing.{values_in_slots};
+ghost use Rattle.bk_alloc.specs.Placing.{slot_sources, values_in_slots};
 ghost use Rattle.bk_alloc.specs.Registers.{holds, is_kept, least_open, Registers, Uses};
 ghost use Rattle.bk_alloc.specs.Tasks.{acts_of_tasks, after_tasks, loads, TaskRecord, with_loads};
+ghost use Rattle.bk_alloc_quality.specs.Flows.{AreFlows, IsBrought, IsLow, UsesNoSlot};
 ghost use Rattle.bk_alloc_quality.specs.Pressure.{AreQuiet, ArePassed, ArePressed, HoldsLive, HoldsStart, is_used, IsBegun, IsFlow, live, LoadsNothing, values_of};
 
 /// A law: where registers hold live words, none twice, and a word that is in none of them is live with them, and these are at
@@ -43,4 +44,21 @@ pub fn blocks_load_nothing()
 /// A law: where no value is taken from a slot, and no phi begins in one, a placed function has no slots.
 pub fn slots_are_for_values()
     ensures { (t : Target) (ps : List PartRecord) (bs : List PlacedBlockRecord) (slots : ℕ) → IsPlacing t ps bs slots → values_in_slots ps ≡ [] → slots ≡ 0 }
+{}
+
+/// A law: where registers hold what is live where a block ends, and what its successor begins with, the moves of the edge take
+/// nothing from a slot.
+pub fn edges_move_registers()
+    ensures { (words : List ℕ) (next : Next) (p s : PartRecord) → IsFlow words (next s.plan.id) s.plan → HoldsLive words (next p.plan.id p.plan.size) [] p.last → HoldsStart words (next s.plan.id) s.plan s.first → IsBrought words next p.plan s.plan → slot_sources (moves_into p s) ≡ [] }
+{}
+
+/// A law: where the pressure of each block is at most the count of registers, and there is no call, a function takes nothing from
+/// a slot.
+pub fn functions_load_nothing()
+    ensures { (words : List ℕ) (next : Next) (count : ℕ) (bs : List PlanRecord) → AreFlows count words next bs → ((b : PlanRecord) → Contains bs b → IsLow count words (next b.id) b) → values_in_slots (allot next count bs) ≡ [] }
+{}
+
+/// A law: the steps of a placed function that takes nothing from a slot load nothing and store nothing.
+pub fn steps_use_no_slots()
+    ensures { (t : Target) (ps : List PartRecord) (bs : List PlacedBlockRecord) (slots : ℕ) → IsPlacing t ps bs slots → values_in_slots ps ≡ [] → AllByRecursion (λ b. AllByRecursion UsesNoSlot b.steps) bs }
 {}
