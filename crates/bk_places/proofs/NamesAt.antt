@@ -52,7 +52,7 @@ phi_none : (a b : ℕ) → (row Phi a b).info.memory ≡ false
 unfolding row entry
 phi_none a b = refl
 
-first_none : (v : ValueRecord) → NamesFirst v → (info_of v.op).memory ≡ false
+pub first_none : (v : ValueRecord) → NamesFirst v → (info_of v.op).memory ≡ false
 first_none v h = ⊎_elim
     (λ (copies : CopiesMemory v). no_memory v.op Copy copies.0 copy_none)
     (λ (result : is_call_result v.op.family ≡ true). no_memory v.op v.op.family refl (call_result_none v.op.family result))
@@ -67,13 +67,13 @@ at_first v h k at = ⊎_elim
     rest)
     at
 
-first_at : (v : ValueRecord) → NamesFirst v → NamesAt v 0
+pub first_at : (v : ValueRecord) → NamesFirst v → NamesAt v 0
 first_at v h = ⊎_elim
     (λ copies. inl (copies, refl))
     (λ e. inr (inl (e, refl)))
     h
 
-at_last : (v : ValueRecord) → ¬ NamesFirst v → (k : ℕ) → NamesAt v k → ((info_of v.op).memory ≡ true) × (k + 1 ≡ length v.args)
+pub at_last : (v : ValueRecord) → ¬ NamesFirst v → (k : ℕ) → NamesAt v k → ((info_of v.op).memory ≡ true) × (k + 1 ≡ length v.args)
 at_last v other k at = ⊎_elim
     (λ (copies : CopiesMemory v × (k ≡ 0)). absurd (other (inl copies.0)))
     (λ rest. ⊎_elim (λ (one : (is_call_result v.op.family ≡ true) × (k ≡ 0)). absurd (other (inr one.0))) (λ last. last) rest)
@@ -116,5 +116,5 @@ phi_names v phi k at = ⊎_elim
     other g e apart = apart e
 
 -- a copy of memory names what it copies
-copies_first_arg : (v : ValueRecord) (n : ℕ) → CopiesMemory v → NamesBy v n → slice_get v.args 0 ≡ Some n
+pub copies_first_arg : (v : ValueRecord) (n : ℕ) → CopiesMemory v → NamesBy v n → slice_get v.args 0 ≡ Some n
 copies_first_arg v n copies (k, at, g) = ap (slice_get v.args) (sym (at_first v (inl copies) k at)) ∙ g
