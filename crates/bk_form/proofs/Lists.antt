@@ -11,11 +11,6 @@ use Rattle.std.proofs.lemmas.List.Folds.{position_or_len_push, find_at}
 use Rattle.std.proofs.lemmas.List.Sums.{sum_by-cons, sum_by-take-drop, get_or-le-sum_by, prefix_len-le-length}
 use Rattle.std.proofs.lemmas.Option.{slice_get_read, slice_get_past}
 
--- what `get` lends
-pub lent : {A : Type 0} (xs : List A) (i : ℕ) (r : Option (Bor A)) → IsItemAt xs i r → option_copied r ≡ slice_get xs i
-lent xs i None h = sym (slice_get_past xs i h.3)
-lent xs i (Some x) h = sym (slice_get_read xs (length xs) i x.now refl h.3.0 h.1)
-
 -- the first place that passes is within the list exactly where some element passes
 pub passes_within : {A : Type 0} (p : A → Bool) (xs : List A) → list_any p xs ≡ false → position_or_len p xs ≡ length xs
 passes_within p [] e = refl

@@ -8,14 +8,6 @@ use Rattle.bk_func.specs.Records.{ValueRecord, BlockRecord, FuncRecord}
 use Rattle.bk_func.specs.Form.States.{CopiesMemory, NamesAt, Names, IsFirstInit}
 use Rattle.bk_form.specs.Places.{NodeRecord, nodes_of}
 
--- the value names a state by its first argument
-abbrev pub NamesFirst : ValueRecord → Type 0
-NamesFirst v = CopiesMemory v ⊎ (is_call_result v.op.family ≡ true)
-
--- the number stands where the value names a state
-abbrev pub NamesBy : ValueRecord → ℕ → Type 0
-NamesBy v n = (k : ℕ) × NamesAt v k × (slice_get v.args k ≡ Some n)
-
 -- the place is that of the state that the value names
 abbrev pub NamesPlace : FuncRecord → ValueRecord → ℕ → Type 0
 NamesPlace f v p = (m : NodeRecord) × (slice_get (nodes_of f) p ≡ Some m) × ((s : ℕ) → Names f v s ↔ (s ≡ m.value.id))
