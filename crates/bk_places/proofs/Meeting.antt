@@ -1,10 +1,8 @@
 -- Searches from the places of a list, one after the other, each with its index as the label.
-use Rattle.std.proofs.Common.{◌≡◌, ◌≢◌, ◌∙◌, sym, refl, ap, subst, ℕ, ◌+◌, ◌<◌, ◌≤◌, ◌⊎◌, List, [], ◌∷◌, ◌++◌, map, length, get_or, replicate, zero, suc, Option, None, Some, inl, inr, ⊎_elim, arith, zero-add}
-use Rattle.std.specs.List.{Contains, slice_get}
+use Rattle.std.proofs.Common.{◌≡◌, ◌∙◌, sym, refl, ap, subst, ℕ, ◌+◌, ◌<◌, ◌≤◌, List, length, get_or, replicate, Option, None, Some, ⊎_elim, arith}
 use Rattle.std.proofs.lemmas.Bool.{cases_lt}
-use Rattle.std.proofs.lemmas.List.{get_or_past, get_or-replicate, length-map, length-replicate}
-use Rattle.std.proofs.lemmas.Option.{none-some, same_Some, slice_get-map, slice_get_within}
-use Rattle.std.specs.Option.{option_map}
+use Rattle.std.proofs.lemmas.List.{get_or_past, get_or-replicate, length-replicate}
+use Rattle.std.proofs.lemmas.Option.{none-some, same_Some}
 use Rattle.bk_places.specs.Order.{AreEnds, IsEnd, end_of}
 use Rattle.bk_places.specs.Search.{Path, IsMarked, Marks, IsClosed, Grows}
 use Rattle.bk_places.proofs.Marking.{marked_or, none_closed}

@@ -1,8 +1,8 @@
 -- That the edges of groups and of what is taken are those of values that come right before others.
-use Rattle.std.proofs.Common.{◌≡◌, ◌∙◌, sym, refl, ap, subst, ℕ, zero, suc, ◌+◌, ◌-◌, ◌<◌, ◌≤◌, ◌↔◌, List, [], length, get_or, replicate, Option, None, Some, inl, inr, ⊎_elim, arith}
+use Rattle.std.proofs.Common.{◌≡◌, ◌∙◌, sym, ap, subst, ℕ, ◌+◌, ◌-◌, ◌<◌, ◌≤◌, List, [], length, get_or, Option, None, Some, inl, inr, ⊎_elim, arith}
 use Rattle.std.specs.List.{Contains, slice_get}
 use Rattle.std.proofs.lemmas.Bool.{cases_lt}
-use Rattle.std.proofs.lemmas.List.{get_or_default, get_or_past, get_or-replicate, length-replicate}
+use Rattle.std.proofs.lemmas.List.{get_or_past, length-replicate}
 use Rattle.std.proofs.lemmas.List.Elements.{Contains-get_or}
 use Rattle.std.proofs.lemmas.Option.{same_Some, slice_get_within}
 use Rattle.bk_func.specs.Records.{ValueRecord, BlockRecord}
@@ -11,8 +11,8 @@ use Rattle.bk_places.specs.declared.order.Lists.{Lists}
 use Rattle.bk_places.specs.declared.role.Role.TheVariants.{User}
 use Rattle.bk_places.proofs.Elements.{at_contains, at_some, contains_at, none_in}
 use Rattle.bk_places.proofs.Leading.{AreRightBefore, before_in, check_leads, index_of, line_leads, right_edge}
-use Rattle.bk_places.specs.Order.{Adds, Follows, HasRole, IsAsked, IsEnd, IsLastBefore, IsRightBefore}
-use Rattle.bk_places.specs.Search.{IsEdge, Leads, Path, here, onward}
+use Rattle.bk_places.specs.Order.{Follows, HasRole, IsAsked, IsEnd, IsLastBefore, IsRightBefore}
+use Rattle.bk_places.specs.Search.{IsEdge, Leads, Path, here}
 use Rattle.bk_sched.specs.Arranged.{AreListed, AreLists, AreTakes, IsNext, IsOrder}
 use Rattle.bk_sched.specs.Named.{AreNamed}
 use Rattle.bk_sched.specs.Order.{Checks, ComesBefore, HasOwnNumbers, Names, argument, checks, needed, state, unneeded}

@@ -1,25 +1,18 @@
 -- What values name of memory, and what numbers stand for.
-use Rattle.std.proofs.Common.{◌≡◌, ◌∙◌, sym, refl, ap, subst, ℕ, ◌+◌, ◌<◌, ◌≤◌, ◌⊎◌, ◌↔◌, true, false, cond, List, [], ◌∷◌, ◌++◌, length, get_or, set, replicate, Option, None, Some, inl, inr, ⊎_elim, arith}
+use Rattle.std.proofs.Common.{◌≡◌, ◌∙◌, sym, refl, ap, subst, ℕ, ◌+◌, ◌<◌, ◌≤◌, ◌⊎◌, ◌↔◌, List, [], ◌∷◌, ◌++◌, length, get_or, set, replicate, Option, None, Some, inl, inr, ⊎_elim, arith}
 use Rattle.std.specs.List.{Contains, slice_get}
-use Rattle.std.specs.Option.{MatchOption}
-use Rattle.std.proofs.lemmas.Bool.{cases_eq, cases_lt, false≢true}
+use Rattle.std.proofs.lemmas.Bool.{cases_eq, cases_lt}
 use Rattle.std.proofs.lemmas.List.{get_or_past, get_or-replicate, get_or-set_other, get_or-set_same, length-replicate, length-set}
 use Rattle.std.proofs.lemmas.List.Elements.{Contains-append_left, Contains-push, Contains-push_cases}
 use Rattle.std.proofs.lemmas.Option.{slice_get_within, none-some, same_Some}
-use Rattle.bk_ops.specs.Table.{info_of, is_op, row, entry, unknown}
-use Rattle.bk_ops.specs.declared.table.Op.{Op}
-use Rattle.bk_ops.specs.declared.family.Family.{Family}
-use Rattle.bk_ops.specs.declared.family.Family.TheVariants.{Copy, Phi, ResReg, ResWord, SelectN}
-use Rattle.bk_ops.specs.Families.{is_call_result}
 use Rattle.bk_func.specs.Records.{ValueRecord, BlockRecord}
-use Rattle.bk_func.specs.Form.Text.{IsPhi}
-use Rattle.bk_func.specs.Form.States.{CopiesMemory, NamesAt}
+use Rattle.bk_func.specs.Form.States.{CopiesMemory}
 use Rattle.bk_places.proofs.Elements.{at_contains, at_some, contains_at, none_in}
 use Rattle.bk_places.proofs.Filling.{Filled}
 use Rattle.bk_places.proofs.Positions.{one_number, place_found, place_gets}
 use Rattle.bk_places.proofs.Reaching.{path_start, path_more}
 use Rattle.bk_places.proofs.Sowing.{Sown}
-use Rattle.bk_places.specs.Named.{NamesBy, NamesFirst, place_in}
+use Rattle.bk_places.specs.Named.{NamesBy, place_in}
 use Rattle.bk_places.specs.Search.{IsEdge, Path, here, onward, with_edge}
 use Rattle.bk_places.proofs.NamesAt.{copies_first_arg}
 use Rattle.bk_sched.specs.Named.{AreCopies, AreKnown, AreNamed, AreRoots, Copies, IsCopyAt, NamesPlace}

@@ -1,16 +1,13 @@
 -- What values need, as paths along what they take.
-use Rattle.std.proofs.Common.{◌≡◌, ◌∙◌, sym, refl, ap, subst, ℕ, ◌+◌, ◌<◌, ◌≤◌, ◌⊎◌, List, length, get_or, replicate, Option, None, Some, inl, inr, ⊎_elim, arith}
+use Rattle.std.proofs.Common.{◌≡◌, sym, refl, subst, ℕ, ◌<◌, ◌⊎◌, List, length, Some, inl, inr, ⊎_elim, arith}
 use Rattle.std.specs.List.{slice_get}
-use Rattle.std.proofs.lemmas.Bool.{cases_lt}
-use Rattle.std.proofs.lemmas.List.{get_or_past, get_or-replicate, length-replicate}
-use Rattle.std.proofs.lemmas.Option.{none-some, same_Some, slice_get_within}
+use Rattle.std.proofs.lemmas.Option.{slice_get_within}
 use Rattle.bk_func.specs.Records.{ValueRecord, BlockRecord}
 use Rattle.bk_func.specs.Form.Before.{IsTakenBy, Needs, takes, through, IsListed}
 use Rattle.bk_places.proofs.Elements.{at_contains, contains_at}
 use Rattle.bk_places.proofs.Leading.{path_before}
 use Rattle.bk_places.proofs.Reaching.{path_more}
-use Rattle.bk_places.specs.Order.{AreEnds, IsEnd, end_of}
-use Rattle.bk_places.specs.Search.{IsEdge, Path, here, onward, IsMarked, Marks, IsClosed, Grows}
+use Rattle.bk_places.specs.Search.{IsEdge, Path, here, onward}
 use Rattle.bk_sched.specs.Arranged.{AreTakes}
 use Rattle.bk_sched.specs.Order.{HasOwnNumbers}
 

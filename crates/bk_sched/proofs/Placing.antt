@@ -1,21 +1,19 @@
 -- The places of numbers.
-use Rattle.std.proofs.Common.{◌≡◌, ℕ, zero, suc, ◌+◌, ◌<◌, ◌≤◌, refl, ap, sym, ◌∙◌, subst, arith, ◌⊎◌, ◌↔◌, inl, inr, ⊎_elim, List, [], ◌∷◌, ◌++◌, length, map, take, Option, Some, None, Bool, true, false, cond, ltb, get_or, ◌==◌, eq-eqb}
-use Rattle.std.specs.Prelude.{position, slice_get}
-use Rattle.std.specs.List.{Contains, position_or_len}
-use Rattle.std.proofs.lemmas.Bool.{cases_lt, eqb-true, lt-ltb}
+use Rattle.std.proofs.Common.{◌≡◌, ℕ, zero, suc, ◌+◌, ◌<◌, ◌≤◌, refl, ap, sym, ◌∙◌, subst, arith, ◌⊎◌, ◌↔◌, inl, inr, ⊎_elim, List, [], ◌∷◌, ◌++◌, length, map, take, Option, Some, None, get_or}
+use Rattle.std.specs.Prelude.{slice_get}
+use Rattle.std.specs.List.{Contains}
+use Rattle.std.proofs.lemmas.Bool.{cases_lt}
 use Rattle.std.proofs.lemmas.List.{length-append, length-map, take_all}
 use Rattle.std.proofs.lemmas.List.Elements.{Contains-append_left, Contains-push}
 use Rattle.std.proofs.lemmas.Option.{none-some, same_Some, slice_get-map, slice_get_within}
 use Rattle.std.specs.Option.{option_map}
-use Rattle.std.proofs.lemmas.List.Quantifiers.{position-Some}
-use Rattle.std.proofs.lemmas.List.Sums.{position_or_len_is}
 use Rattle.bk_func.specs.Records.{ValueRecord, BlockRecord}
 use Rattle.bk_func.specs.Form.Text.{Defines, IsPhi}
 use Rattle.bk_places.proofs.Adding.{first_members}
 use Rattle.bk_places.proofs.Elements.{at_contains, at_some, contains_at, none_in}
 use Rattle.bk_places.proofs.Filling.{Filled}
 use Rattle.bk_places.specs.Named.{NamesBy, NamesIf, place_in}
-use Rattle.bk_places.proofs.Positions.{one_number, place_first, place_found, place_gets}
+use Rattle.bk_places.proofs.Positions.{place_first, place_found, place_gets}
 use Rattle.bk_sched.specs.Arranged.{AreTakes}
 use Rattle.bk_sched.specs.Named.{AreKnown, pushed}
 use Rattle.bk_sched.specs.Order.{HasOwnNumbers}

@@ -1,12 +1,12 @@
 -- Which values come right before which, by places.
-use Rattle.std.specs.Prelude.{◌≡◌, ◌↔◌, ℕ, ◌+◌, ◌<◌, ◌≤◌, Bool, true, false, List, [], length, replicate, Option, None, Some, slice_index, slice_index_or, ◌⊎◌}
+use Rattle.std.specs.Prelude.{◌≡◌, ◌↔◌, ℕ, ◌<◌, true, List, [], length, Option, None, Some, slice_index, slice_index_or}
 use Rattle.std.specs.List.{Contains, slice_get}
 use Rattle.bk_func.specs.Records.{ValueRecord, BlockRecord}
 use Rattle.bk_func.specs.Form.Text.{IsPhi}
-use Rattle.bk_func.specs.Form.Before.{IsLoad, IsNilCheck, IsResult}
+use Rattle.bk_func.specs.Form.Before.{IsLoad, IsNilCheck}
 use Rattle.bk_places.specs.declared.order.Lists.{Lists}
 use Rattle.bk_places.specs.declared.role.Role.TheVariants.{User}
-use Rattle.bk_places.specs.Search.{IsEdge, Leads, Marks, Path}
+use Rattle.bk_places.specs.Search.{IsEdge, Leads}
 use Rattle.bk_places.specs.Order.{HasRole}
 use Rattle.bk_sched.specs.Order.{ComesBefore, is_state}
 

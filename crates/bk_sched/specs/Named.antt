@@ -1,11 +1,10 @@
 -- What numbers stand for and what values name, by places of numbers.
-use Rattle.std.specs.Prelude.{◌≡◌, ◌↔◌, ℕ, ◌<◌, ◌≤◌, ◌==◌, ◌++◌, ◌∷◌, List, [], length, position, true, Option, None, Some, MatchOption, slice_index_or, ◌⊎◌}
+use Rattle.std.specs.Prelude.{◌≡◌, ◌↔◌, ℕ, ◌<◌, ◌≤◌, ◌++◌, ◌∷◌, List, [], length, Option, None, Some, slice_index_or}
 use Rattle.std.specs.List.{Contains, slice_get}
 use Rattle.std.specs.Ordering.{nat_cmp}
 use Rattle.std.specs.BTreeMap.{get}
-use Rattle.bk_ops.specs.Families.{is_call_result}
 use Rattle.bk_func.specs.Records.{ValueRecord, BlockRecord}
-use Rattle.bk_func.specs.Form.States.{CopiesMemory, NamesAt}
+use Rattle.bk_func.specs.Form.States.{CopiesMemory}
 use Rattle.bk_places.specs.Named.{NamesBy, place_in}
 use Rattle.bk_sched.specs.declared.places.Places.{Places}
 use Rattle.bk_places.specs.Search.{IsEdge}
