@@ -1,8 +1,8 @@
 -- That the edges of groups and of what is taken are those of values that come right before others.
-use Rattle.std.proofs.Common.{◌≡◌, ◌∙◌, sym, refl, ap, subst, ℕ, zero, suc, ◌+◌, ◌-◌, ◌<◌, ◌≤◌, ◌↔◌, List, [], length, get_or, replicate, Option, None, Some, inl, inr, ⊎_elim, arith}
+use Rattle.std.proofs.Common.{◌≡◌, ◌∙◌, sym, refl, ap, subst, ℕ, ◌+◌, ◌-◌, ◌<◌, ◌≤◌, List, [], length, get_or, Option, None, Some, inl, inr, ⊎_elim, arith}
 use Rattle.std.specs.List.{Contains, slice_get}
 use Rattle.std.proofs.lemmas.Bool.{cases_lt}
-use Rattle.std.proofs.lemmas.List.{get_or_default, get_or_past, get_or-replicate, length-replicate}
+use Rattle.std.proofs.lemmas.List.{get_or_past, length-replicate}
 use Rattle.std.proofs.lemmas.List.Elements.{Contains-get_or}
 use Rattle.std.proofs.lemmas.Option.{same_Some, slice_get_within}
 use Rattle.bk_func.specs.Records.{ValueRecord, BlockRecord, FuncRecord}
@@ -12,8 +12,7 @@ use Rattle.bk_places.proofs.Leading.{before_in, index_of, AreRightBefore, right_
 use Rattle.bk_places.specs.declared.order.Lists.{Lists}
 use Rattle.bk_places.specs.declared.role.Role.TheVariants.{Check, Load as Loading, User}
 use Rattle.bk_places.proofs.Elements.{none_in, at_some}
-use Rattle.bk_places.proofs.Leading.{leads_on}
-use Rattle.bk_places.specs.Order.{Adds, Follows, IsAsked, IsEnd, IsLastBefore, IsRightBefore}
+use Rattle.bk_places.specs.Order.{Follows, IsAsked, IsEnd, IsLastBefore, IsRightBefore}
 use Rattle.bk_places.specs.Search.{Leads, IsEdge, Path, here, onward}
 use Rattle.bk_form.specs.Arranged.{AreLists, AreTakes, IsNextAt, PlaysAt}
 use Rattle.bk_form.specs.Groups.{AreGroupsOf, AreListed}

@@ -1,8 +1,8 @@
 -- The edges between blocks, found one by one.
-use Rattle.std.proofs.Common.{◌≡◌, ◌∙◌, sym, refl, ap, subst, ℕ, ◌+◌, ◌<◌, ◌≤◌, Bool, List, [], ◌∷◌, ◌++◌, map, length, get_or, set, take, replicate, Option, None, Some, ⊎_elim}
+use Rattle.std.proofs.Common.{◌≡◌, ◌∙◌, sym, refl, ap, subst, ℕ, ◌+◌, ◌<◌, ◌≤◌, Bool, List, [], ◌∷◌, ◌++◌, map, length, get_or, take, replicate, Option, None, Some, ⊎_elim}
 use Rattle.std.specs.List.{Contains, cons_option, filter_map, slice_get}
 use Rattle.std.proofs.lemmas.Bool.{cases_lt}
-use Rattle.std.proofs.lemmas.List.{take_more, take_all, map-append, map-set, get_or-map, length-replicate, get_or-replicate, get_or_past, replicate-append-replicate}
+use Rattle.std.proofs.lemmas.List.{take_more, take_all, map-append, length-replicate, get_or-replicate, get_or_past, replicate-append-replicate}
 use Rattle.std.proofs.lemmas.List.Elements.{filter_map-append}
 use Rattle.std.proofs.lemmas.Option.{none-some, slice_get_read}
 use Rattle.bk_func.specs.Records.{BlockRecord, FuncRecord}

@@ -1,21 +1,19 @@
 -- Groups of places, one place after the other.
-use Rattle.std.proofs.Common.{◌≡◌, ◌∙◌, sym, refl, ap, subst, ℕ, ◌+◌, ◌<◌, ◌≤◌, ◌↔◌, Bool, true, false, cond, List, [], ◌∷◌, ◌++◌, length, get_or, set, Option, None, Some, ⊎_elim, arith}
+use Rattle.std.proofs.Common.{◌≡◌, ◌∙◌, sym, refl, ap, subst, ℕ, ◌+◌, ◌<◌, ◌≤◌, ◌↔◌, Bool, true, false, cond, List, [], ◌∷◌, ◌++◌, length, get_or, Option, None, Some, ⊎_elim, arith}
 use Rattle.std.specs.BTreeMap.{get, BTreeMap, is_at}
-use Rattle.std.specs.List.{Contains, slice_get}
+use Rattle.std.specs.List.{slice_get}
 use Rattle.std.specs.Option.{is_some, unwrap_or}
 use Rattle.std.specs.Ordering.{nat_cmp, ordering_then, is_eq}
 use Rattle.std.specs.declared.cmp.Ordering.{Ordering}
 use Rattle.std.specs.declared.cmp.Ordering.TheVariants.{Less, Equal, Greater}
-use Rattle.std.proofs.lemmas.Bool.{cases_Bool, cases_eq, cases_lt, eqb-true, eq-eqb, false≢true}
-use Rattle.std.proofs.lemmas.List.{get_or_append_left, get_or_past, get_or_push, get_or-set_other, get_or-set_same, length-set, length_push}
-use Rattle.std.proofs.lemmas.List.Elements.{Contains-append_left, Contains-get_or, Contains-push, Contains-push_cases}
+use Rattle.std.proofs.lemmas.Bool.{cases_Bool, cases_lt, eqb-true, eq-eqb, false≢true}
+use Rattle.std.proofs.lemmas.List.{get_or_append_left, get_or_past, get_or_push, length_push}
 use Rattle.std.proofs.lemmas.Option.{none-some, same_Some, slice_get_within}
 use Rattle.bk_func.specs.Records.{FuncRecord}
 use Rattle.bk_func.specs.Form.States.{Names}
 use Rattle.bk_places.proofs.Elements.{at_some}
 use Rattle.bk_places.proofs.Filling.{Filled}
 use Rattle.bk_places.specs.Order.{AreMembers}
-use Rattle.bk_places.specs.Search.{with_edge}
 use Rattle.bk_form.specs.Arranged.{IsNextAt}
 use Rattle.bk_form.specs.Chains.{AreHomes, AreNamed}
 use Rattle.bk_form.specs.Naming.{NamesIf}

@@ -1,16 +1,13 @@
 -- What values need, as paths along what they take.
-use Rattle.std.proofs.Common.{◌≡◌, ◌≢◌, ◌∙◌, sym, refl, ap, subst, ℕ, ◌+◌, ◌<◌, ◌≤◌, ◌⊎◌, List, [], ◌∷◌, ◌++◌, map, length, get_or, replicate, zero, suc, Option, None, Some, inl, inr, ⊎_elim, arith, zero-add}
+use Rattle.std.proofs.Common.{◌≡◌, ◌∙◌, sym, refl, ap, subst, ℕ, ◌+◌, ◌<◌, ◌⊎◌, List, [], ◌∷◌, ◌++◌, map, length, zero, suc, Some, inl, inr, ⊎_elim, arith, zero-add}
 use Rattle.std.specs.List.{Contains, slice_get}
-use Rattle.std.proofs.lemmas.Bool.{cases_lt}
-use Rattle.std.proofs.lemmas.List.{get_or_past, get_or-replicate, length-map, length-replicate}
+use Rattle.std.proofs.lemmas.List.{length-map}
 use Rattle.std.proofs.lemmas.Option.{none-some, same_Some, slice_get-map, slice_get_within}
 use Rattle.std.specs.Option.{option_map}
 use Rattle.bk_func.specs.Records.{ValueRecord, BlockRecord, FuncRecord}
 use Rattle.bk_func.specs.Form.Before.{IsTakenBy, Needs, takes, through, IsListed}
 use Rattle.bk_places.proofs.Elements.{at_contains}
-use Rattle.bk_places.proofs.Marking.{marked_or, none_closed}
-use Rattle.bk_places.specs.Order.{AreEnds, IsEnd, end_of}
-use Rattle.bk_places.specs.Search.{IsEdge, Path, here, onward, IsMarked, Marks, IsClosed, Grows}
+use Rattle.bk_places.specs.Search.{IsEdge, Path, here, onward}
 use Rattle.bk_places.proofs.Leading.{path_before}
 use Rattle.bk_form.specs.Arranged.{AreTakes}
 use Rattle.bk_form.specs.Places.{node_at, nodes_from, nodes_of}

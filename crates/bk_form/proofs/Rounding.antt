@@ -1,5 +1,5 @@
 -- Values that come before themselves, as paths.
-use Rattle.std.proofs.Common.{◌≡◌, ◌≢◌, ◌∙◌, sym, refl, ap, subst, ℕ, ◌+◌, ◌<◌, ◌≤◌, ◌↔◌, Bool, true, false, List, [], length, get_or, replicate, Option, None, Some, ⊎_elim, arith}
+use Rattle.std.proofs.Common.{◌≡◌, ◌∙◌, sym, refl, ap, subst, ℕ, ◌+◌, ◌<◌, ◌≤◌, ◌↔◌, Bool, true, false, List, [], length, get_or, replicate, Option, None, Some, ⊎_elim, arith}
 use Rattle.std.specs.Bool.{MatchBool}
 use Rattle.std.specs.List.{All, Contains, slice_get}
 use Rattle.std.proofs.lemmas.Bool.{cases_lt, false≢true}
@@ -12,7 +12,7 @@ use Rattle.bk_func.specs.Form.Text.{HasValue}
 use Rattle.bk_places.proofs.Leading.{leads_on}
 use Rattle.bk_places.proofs.Elements.{none_in, at_contains}
 use Rattle.bk_places.proofs.Marking.{marked_or, none_closed, marked_still}
-use Rattle.bk_places.proofs.Reaching.{path_start, path_within}
+use Rattle.bk_places.proofs.Reaching.{path_start}
 use Rattle.bk_places.specs.Search.{Leads, IsEdge, Path, here, onward as farther, IsMarked, Marks, IsClosed, Grows}
 use Rattle.bk_form.specs.Numbers.{value_ids, sole}
 use Rattle.bk_form.specs.Orders.{IsOrder, RisesTo, Settles}

@@ -1,12 +1,7 @@
 -- Searches from several starts, one after the other, each of which gives its place as the label.
-use Rattle.std.proofs.Common.{◌≡◌, ◌∙◌, sym, ap, subst, ℕ, ◌+◌, ◌<◌, ◌≤◌, List, length, get_or, replicate, Option, None, Some, ⊎_elim, arith}
-use Rattle.std.proofs.lemmas.Bool.{cases_lt}
-use Rattle.std.proofs.lemmas.List.{get_or_past, get_or-replicate, length-replicate}
-use Rattle.std.proofs.lemmas.Option.{none-some, same_Some}
+use Rattle.std.proofs.Common.{◌≡◌, ℕ, ◌≤◌, List, length, get_or, Option, None, arith}
 use Rattle.bk_places.proofs.Sowing.{Sown}
-use Rattle.bk_places.proofs.Marking.{marked_or, none_closed, marked_still}
 use Rattle.bk_places.proofs.Reaching.{path_start}
-use Rattle.bk_places.specs.Search.{Path, IsMarked, Marks, IsClosed, Grows}
 use Rattle.bk_form.specs.Chains.{AreFirsts}
 
 -- where the starts are the places before which there is none

@@ -1,19 +1,16 @@
 -- What values name of memory.
-use Rattle.std.proofs.Common.{◌≡◌, ◌∙◌, sym, refl, ap, subst, ℕ, ◌+◌, ◌<◌, ◌↔◌, true, false, cond, List, length, get_or, Option, None, Some, inl, inr, ⊎_elim, arith}
+use Rattle.std.proofs.Common.{◌≡◌, ◌∙◌, sym, refl, ap, subst, ℕ, ◌+◌, ◌<◌, ◌↔◌, List, get_or, Option, None, Some, ⊎_elim}
 use Rattle.std.specs.List.{Contains, slice_get}
 use Rattle.std.specs.Option.{MatchOption}
-use Rattle.std.proofs.lemmas.Bool.{cases_order, false≢true}
-use Rattle.std.proofs.lemmas.Option.{slice_get_within, none-some, same_Some}
-use Rattle.bk_ops.specs.Families.{is_call_result}
-use Rattle.bk_ops.specs.Table.{info_of, is_op, row, entry, unknown}
-use Rattle.bk_ops.specs.declared.table.Op.{Op}
-use Rattle.bk_ops.specs.declared.family.Family.{Family}
-use Rattle.bk_ops.specs.declared.family.Family.TheVariants.{Copy, InitMem, Phi, ResReg, ResWord, SelectN}
+use Rattle.std.proofs.lemmas.Bool.{cases_order}
+use Rattle.std.proofs.lemmas.Option.{none-some, same_Some}
+use Rattle.bk_ops.specs.Table.{entry}
+use Rattle.bk_ops.specs.declared.family.Family.TheVariants.{InitMem}
 use Rattle.bk_func.specs.Records.{ValueRecord, BlockRecord, FuncRecord}
 use Rattle.bk_func.specs.Form.Text.{HasValue, IsFirstIn, IsPhi}
-use Rattle.bk_func.specs.Form.States.{CopiesMemory, IsFirstInit, IsState, StandsFor, itself, copied, NamesAt, Names}
+use Rattle.bk_func.specs.Form.States.{IsFirstInit, IsState, StandsFor, itself, copied, NamesAt, Names}
 use Rattle.bk_places.proofs.Elements.{contains_at, at_contains, at_some}
-use Rattle.bk_places.specs.Named.{NamesFirst, NamesBy}
+use Rattle.bk_places.specs.Named.{NamesBy}
 use Rattle.bk_form.specs.Roots.{AreRoots}
 use Rattle.bk_form.specs.Naming.{GivesState, IsFirstOf, NamesPlace, NamesIf}
 use Rattle.bk_form.specs.Numbers.{value_ids, sole}

@@ -1,14 +1,13 @@
 -- Which values come right before which, by places.
-use Rattle.std.specs.Prelude.{◌≡◌, ◌↔◌, ℕ, ◌+◌, ◌<◌, ◌≤◌, List, [], length, Option, None, Some, slice_index, slice_index_or, ◌⊎◌}
+use Rattle.std.specs.Prelude.{◌≡◌, ◌↔◌, ℕ, List, length, Option, Some}
 use Rattle.std.specs.List.{Contains, slice_get}
-use Rattle.bk_func.specs.Records.{ValueRecord, FuncRecord}
+use Rattle.bk_func.specs.Records.{FuncRecord}
 use Rattle.bk_func.specs.Form.Text.{IsPhi}
-use Rattle.bk_func.specs.Form.Before.{IsLoad, IsNilCheck, IsResult}
 use Rattle.bk_places.specs.Order.{HasRole}
 use Rattle.bk_places.specs.declared.order.Lists.{Lists}
 use Rattle.bk_places.specs.declared.role.Role.{Role}
 use Rattle.bk_places.specs.declared.role.Role.TheVariants.{Check, Load, User}
-use Rattle.bk_places.specs.Search.{IsEdge, Path}
+use Rattle.bk_places.specs.Search.{IsEdge}
 use Rattle.bk_form.specs.Chains.{IsStateAt}
 use Rattle.bk_form.specs.Groups.{AreListed}
 use Rattle.bk_form.specs.Places.{NodeRecord, nodes_of}

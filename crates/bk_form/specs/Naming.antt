@@ -1,11 +1,10 @@
 -- What values name of memory, by numbers and by places.
-use Rattle.std.specs.Prelude.{◌≡◌, ◌↔◌, ℕ, true, Option, Some, MatchOption, ◌⊎◌}
+use Rattle.std.specs.Prelude.{◌≡◌, ◌↔◌, ℕ, Option, Some, MatchOption, ◌⊎◌}
 use Rattle.std.specs.List.{slice_get}
-use Rattle.bk_ops.specs.Families.{is_call_result}
 use Rattle.bk_ops.specs.declared.family.Family.TheVariants.{Copy, InitMem, MakeResult, StaticLECall}
 use Rattle.bk_ops.specs.declared.types.Ty.TheVariants.{Mem}
 use Rattle.bk_func.specs.Records.{ValueRecord, BlockRecord, FuncRecord}
-use Rattle.bk_func.specs.Form.States.{CopiesMemory, NamesAt, Names, IsFirstInit}
+use Rattle.bk_func.specs.Form.States.{Names, IsFirstInit}
 use Rattle.bk_form.specs.Places.{NodeRecord, nodes_of}
 
 -- the place is that of the state that the value names

@@ -4,7 +4,7 @@ use Rattle.std.specs.List.{slice_get}
 use Rattle.bk_func.specs.Records.{ValueRecord, BlockRecord, FuncRecord}
 use Rattle.bk_func.specs.Form.Before.{ComesBefore, Precedes}
 use Rattle.bk_places.specs.Search.{Leads}
-use Rattle.bk_places.specs.Search.{IsEdge, Path}
+use Rattle.bk_places.specs.Search.{IsEdge}
 use Rattle.bk_form.specs.Places.{NodeRecord, node_at, nodes_of}
 
 -- edges lead from the places of values to those of the values that they come before, and to no others; past the
