@@ -18,3 +18,4 @@ pub mod Standing
 pub mod Coming
 pub mod Places
 pub mod Cutting
+pub mod Outside

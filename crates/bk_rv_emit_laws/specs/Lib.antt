@@ -8,3 +8,4 @@ pub mod Jumps
 pub mod Calls
 pub mod Ends
 pub mod Cuts
+pub mod Areas

@@ -3,6 +3,7 @@
 
 ghost use Rattle.std.specs.Prelude.{ℕ};
 ghost use Rattle.bk_ops.specs.declared.family.RvOp.{RvOp};
+ghost use Rattle.bk_rv_emit_laws.specs.Areas.{WordLoads, WordStores};
 ghost use Rattle.bk_rv_emit_laws.specs.Calls.{EntryEnters, EntryTraps, LeaveReturns, CallCalls};
 ghost use Rattle.bk_rv_emit_laws.specs.Cuts.{LinesCut, WordsCut, InstsStand};
 ghost use Rattle.bk_rv_emit_laws.specs.Does.{UnitDoes, ConstDoes, AddrDoes};
@@ -47,6 +48,13 @@ pub fn steps_move_values()
     ensures moves { MoveMakes }
     ensures computes { ComputeMakes }
     ensures sequences { StepsMake }
+{}
+
+/// A law: the words of calls, which a function was given or gives back behind its frame and which it hands to its own calls below its
+/// slots, are loaded and stored by their offsets, near and far, and the frame's places hold what they held.
+pub fn words_of_calls_move()
+    ensures loads { WordLoads }
+    ensures stores { WordStores }
 {}
 
 /// A law: a jump of any form goes to its place, and a branch where what was tested is so, else behind itself; the fields of a form
