@@ -19,3 +19,4 @@ pub mod Coming
 pub mod Places
 pub mod Cutting
 pub mod Outside
+pub mod Patching

@@ -9,3 +9,4 @@ pub mod Calls
 pub mod Ends
 pub mod Cuts
 pub mod Areas
+pub mod Patched

@@ -10,6 +10,7 @@ ghost use Rattle.bk_rv_emit_laws.specs.Does.{UnitDoes, ConstDoes, AddrDoes};
 ghost use Rattle.bk_rv_emit_laws.specs.Ends.{SizesReach, JumpComes, BranchComes};
 ghost use Rattle.bk_rv_emit_laws.specs.Jumps.{JumpGoes, BranchGoes, JumpFits, BranchFits};
 ghost use Rattle.bk_rv_emit_laws.specs.Octets.{LoadsAreBelow, StoresAreBytes};
+ghost use Rattle.bk_rv_emit_laws.specs.Patched.{AddrBecomes, PoolBecomes, CallBecomes};
 ghost use Rattle.bk_rv_emit_laws.specs.Steps.{ValueMakes, LoadMakes, StoreMakes, MoveMakes, ComputeMakes, StepsMake};
 ghost use Rattle.bk_rv_emit_laws.specs.Windows.{IsSize, LoadDoes, StoreDoes, StoreBoolDoes, CheckPasses, CheckTraps, TrapDoes, ZeroDoes};
 
@@ -74,6 +75,14 @@ pub fn calls_begin_and_end()
     ensures exhausted { EntryTraps }
     ensures endings { LeaveReturns }
     ensures calls { CallCalls }
+{}
+
+/// A law: the words of a unit that waits for an address are those of its instructions once the address, or for a call the distance, is
+/// in them: of an address, of a constant in the pool, of a call.
+pub fn patches_fill_units()
+    ensures addresses { AddrBecomes }
+    ensures constants { PoolBecomes }
+    ensures calls { CallBecomes }
 {}
 
 /// A law: lines stand one behind the other, and where the words of lines that are instructions stand, the instructions do.
