@@ -20,3 +20,5 @@ pub mod Places
 pub mod Cutting
 pub mod Outside
 pub mod Patching
+pub mod Halves
+pub mod Copies

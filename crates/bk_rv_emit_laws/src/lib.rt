@@ -12,7 +12,7 @@ ghost use Rattle.bk_rv_emit_laws.specs.Jumps.{JumpGoes, BranchGoes, JumpFits, Br
 ghost use Rattle.bk_rv_emit_laws.specs.Octets.{LoadsAreBelow, StoresAreBytes};
 ghost use Rattle.bk_rv_emit_laws.specs.Patched.{AddrBecomes, PoolBecomes, CallBecomes};
 ghost use Rattle.bk_rv_emit_laws.specs.Steps.{ValueMakes, LoadMakes, StoreMakes, MoveMakes, ComputeMakes, StepsMake};
-ghost use Rattle.bk_rv_emit_laws.specs.Windows.{IsSize, LoadDoes, StoreDoes, StoreBoolDoes, CheckPasses, CheckTraps, TrapDoes, ZeroDoes};
+ghost use Rattle.bk_rv_emit_laws.specs.Windows.{IsSize, LoadDoes, StoreDoes, StoreBoolDoes, CheckPasses, CheckTraps, TrapDoes, ZeroDoes, MoveDoes};
 
 /// A law: where the unit of a pure op stands, the machine goes through it and leaves the op's value in the unit's register; so do
 /// the units of constants and addresses.
@@ -22,8 +22,8 @@ pub fn units_compute()
     ensures addresses { AddrDoes }
 {}
 
-/// A law: in the data window loads read what stands there, stores of words and bits and zeros leave what the meaning says, and
-/// checks and traps go on or trap with their numbers.
+/// A law: in the data window loads read what stands there; stores of words and bits, zeros, and bytes that are moved leave what the
+/// meaning says; checks and traps go on or trap with their numbers.
 pub fn units_reach_memory()
     ensures loads { (w : ℕ) → IsSize w → LoadDoes w }
     ensures stores { (w : ℕ) → IsSize w → StoreDoes w }
@@ -32,6 +32,7 @@ pub fn units_reach_memory()
     ensures fails { CheckTraps }
     ensures traps { TrapDoes }
     ensures zeros { ZeroDoes }
+    ensures moves { MoveDoes }
 {}
 
 /// A law: a number that is loaded from bytes is below 256 to their count, and a store leaves bytes.
