@@ -39,7 +39,7 @@ of_load o m d a n v c l e b w t low f h =
     P.ends (i.Load o d a c ∷ []) d m (with_reg m d v) v p refl (P.last d m m d v p0 t.some t.low)
 
 -- what the data window has is what a load reads
-in_window : (m : Machine) (w a n : ℕ) → IsPlaced m → 1 ≤ w → number_at m.window w a ≡ Some n → load m w a ≡ Some n
+pub in_window : (m : Machine) (w a n : ℕ) → IsPlaced m → 1 ≤ w → number_at m.window w a ≡ Some n → load m w a ≡ Some n
 in_window m w a n p s h =
     let b = load_within data_base w a n m.window h in
     let q = p.window in

@@ -24,7 +24,7 @@ use Rattle.bk_rv_emit.specs.Numbers.{upper, lower}
 use Rattle.bk_num.specs.Word.{residue, signed}
 use Rattle.bk_num.proofs.Signs.{residue_below}
 use Rattle.bk_rv_isa.specs.declared.inst.RegisterOp.TheVariants.{Add}
-use Rattle.bk_rv_emit_laws.proofs.Slots.{near_load, near_store, word_by, word_in, near_load_makes, scratch_leads, store_by, near_store_leads, then_leads, register_move, value_makes}
+use Rattle.bk_rv_emit_laws.proofs.Slots.{same_load, near_load, near_store, word_by, word_in, near_load_makes, scratch_leads, store_by, near_store_leads, then_leads, register_move, value_makes}
 
 -- words at long offsets, by way of x1
 
@@ -62,12 +62,13 @@ base_leaves t o m w g two c =
 first_target : P.IsTarget 1 1
 first_target = record { some = λ e. omega (arith, e); low = omega arith; is = inl refl }
 
-record Based (f : Frame) (sp o : ℕ) (m : Machine) (s : Spot → ℕ) : Type 0 where
-  leads : Leads f sp (long_base 1 o) m s
-  base : reg leads.after.regs 1 ≡ (residue 64 (upper (pos o) *ℤ pos (2 ^ 12)) + sp) % 2 ^ 64
-  others : (r : ℕ) → r ≢ 1 → reg leads.after.regs r ≡ reg m.regs r
+pub record Based (f : Frame) (sp o : ℕ) (m : Machine) (s : Spot → ℕ) : Type 0 where
+  pub leads : Leads f sp (long_base 1 o) m s
+  pub base : reg leads.after.regs 1 ≡ (residue 64 (upper (pos o) *ℤ pos (2 ^ 12)) + sp) % 2 ^ 64
+  pub others : (r : ℕ) → r ≢ 1 → reg leads.after.regs r ≡ reg m.regs r
+  pub same : (width a : ℕ) → load leads.after width a ≡ load m width a
 
-base_leads : (f : Frame) (sp o : ℕ) (m : Machine) (s : Spot → ℕ) → IsFrame f sp m → Holds f sp m s → HasAt m.text m.pc (long_base 1 o) → Based f sp o m s
+pub base_leads : (f : Frame) (sp o : ℕ) (m : Machine) (s : Spot → ℕ) → IsFrame f sp m → Holds f sp m s → HasAt m.text m.pc (long_base 1 o) → Based f sp o m s
 base_leads f sp o m s g h c =
     let z = upper (pos o) *ℤ pos (2 ^ 12) in
     let b = base_leaves 1 o m g.well first_target (λ e. omega (arith, e)) c in
@@ -76,6 +77,7 @@ base_leads f sp o m s g h c =
       leads = x.0;
       base = x.1 ∙ ap (λ k. (residue 64 z + k) % 2 ^ 64) g.pointer;
       others = λ r q. ap (λ n. reg n.regs r) x.2 ∙ b.1 r q;
+      same = λ width a. ap (λ n. load n width a) x.2 ∙ same_load 1 m b.0.after width a b.0.path.keeps;
     }
 
 -- what stands behind instructions that were made
@@ -101,7 +103,7 @@ far_store f r n = i.Store Sd r 1 (lower (pos (8 * (f.out + n)))) ∷ []
 far_word : (f : Frame) (sp r n v : ℕ) (m : Machine) → IsFrame f sp m → n ≤ f.slots → f.bytes < 2 ^ 30 → reg m.regs 1 ≡ (residue 64 (upper (pos (8 * (f.out + n))) *ℤ pos (2 ^ 12)) + sp) % 2 ^ 64 →
     load m 8 (word_address f sp n) ≡ Some v → v < 2 ^ 64 → P.IsTarget r r → HasAt m.text m.pc (far_load f r n) → Leaves (far_load f r n) m r v
 unfolding far_load
-far_word f sp r n v m g l b e w lt t c = word_by f sp r 1 n v (lower (pos (8 * (f.out + n)))) m g w lt t (long_at f sp n m g l e b) c
+far_word f sp r n v m g l b e w lt t c = word_by r 1 (word_address f sp n) v (lower (pos (8 * (f.out + n)))) m g.well w lt t (long_at f sp n m g l e b) c
 
 far_load_makes : (f : Frame) (s : Spot → ℕ) (r n : ℕ) → IsHome r → n ≤ f.slots → f.bytes < 2 ^ 30 → Makes f (long_base 1 (8 * (f.out + n)) ++ far_load f r n) s (set s (Register r) (s (Word n)))
 far_load_makes f s r n home l b sp m g h c =

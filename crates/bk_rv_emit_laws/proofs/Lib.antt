@@ -18,3 +18,7 @@ pub mod Standing
 pub mod Coming
 pub mod Places
 pub mod Cutting
+pub mod Outside
+pub mod Patching
+pub mod Halves
+pub mod Copies

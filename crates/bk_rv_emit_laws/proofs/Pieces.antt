@@ -75,7 +75,7 @@ store_split base j k a n mem d h =
       store_there base k (a + j) (n / 256 ^ j) e (omega (arith, lo)) (omega (arith, hi, long)) ∙ ap Some (written_split base j k a n mem lo hi ∙ b.2),
     )
 
-store_none : (base a n : ℕ) (mem d : List ℕ) → store_in base mem 0 a n ≡ Some d → mem ≡ d
+pub store_none : (base a n : ℕ) (mem d : List ℕ) → store_in base mem 0 a n ≡ Some d → mem ≡ d
 unfolding bytes
 store_none base a n mem d h =
     let b = store_bounds base 0 a n mem d h in
@@ -120,7 +120,7 @@ zero_over : (n : ℕ) → 0 / 256 ^ n ≡ 0
 zero_over n = let l = div-le_self 0 (256 ^ n) in omega (arith, l)
 
 -- what stands behind
-rest_at : (is js : List Inst) (m : Machine) (d : List ℕ) (a : Writes is m d) → HasAt m.text m.pc (is ++ js) → HasAt a.after.text a.after.pc js
+pub rest_at : (is js : List Inst) (m : Machine) (d : List ℕ) (a : Writes is m d) → HasAt m.text m.pc (is ++ js) → HasAt a.after.text a.after.pc js
 rest_at is js m d a h = subst (λ t. HasAt t a.after.pc js) (sym a.trail.text) (subst (λ p. HasAt m.text p js) (sym a.pc) (has_back is js m.text m.pc h))
 
 eights_do : (k : ℕ) (r : Regs) (x : ℕ) (m : Machine) (d : List ℕ) → IsWell m → r.a ≢ 31 → reg m.regs r.a ≡ x → x + 8 * k < 2 ^ 64 → HasAt m.text m.pc (eights false r k) →
@@ -141,13 +141,13 @@ piece_if true s z r off x m d w e l h t = piece_does s z r off x m d w e l h t
 piece_if false s z r off x m d w e l h t = nothing m d w (store_none data_base (x + off) 0 m.window d t)
 
 -- the sizes of the pieces
-four : (n : ℕ) → cond (nat_le 4 (n % 8)) 4 0 ≡ n % 8 / 4 * 4
+pub four : (n : ℕ) → cond (nat_le 4 (n % 8)) 4 0 ≡ n % 8 / 4 * 4
 four n = grind (arith, nat_tests)
 
-two : (n : ℕ) → cond (nat_le 2 (n % 4)) 2 0 ≡ n % 4 / 2 * 2
+pub two : (n : ℕ) → cond (nat_le 2 (n % 4)) 2 0 ≡ n % 4 / 2 * 2
 two n = grind (arith, nat_tests)
 
-one : (n : ℕ) → cond (n % 2 == 1) 1 0 ≡ n % 2
+pub one : (n : ℕ) → cond (n % 2 == 1) 1 0 ≡ n % 2
 one n = grind (arith, nat_tests)
 
 again : (base j k a : ℕ) (mem d : List ℕ) → store_in base mem k a (0 / 256 ^ j) ≡ Some d → store_in base mem k a 0 ≡ Some d
@@ -159,16 +159,16 @@ moved_to k a b n mem d e h = ap (λ c. store_in data_base mem k c n) (sym e) ∙
 in_window : (k a n : ℕ) (mem other d : List ℕ) → other ≡ mem → store_in data_base mem k a n ≡ Some d → store_in data_base other k a n ≡ Some d
 in_window k a n mem other d e h = ap (λ c. store_in data_base c k a n) e ∙ h
 
-fit_8 : (x n : ℕ) → x + n < 2 ^ 64 → x + 8 * (n / 8) < 2 ^ 64
+pub fit_8 : (x n : ℕ) → x + n < 2 ^ 64 → x + 8 * (n / 8) < 2 ^ 64
 fit_8 x n h = omega (arith, h)
 
-fit_4 : (x n : ℕ) → x + n < 2 ^ 64 → x + n / 8 * 8 < 2 ^ 64
+pub fit_4 : (x n : ℕ) → x + n < 2 ^ 64 → x + n / 8 * 8 < 2 ^ 64
 fit_4 x n h = omega (arith, h)
 
-fit_2 : (x n : ℕ) → x + n < 2 ^ 64 → x + n / 4 * 4 < 2 ^ 64
+pub fit_2 : (x n : ℕ) → x + n < 2 ^ 64 → x + n / 4 * 4 < 2 ^ 64
 fit_2 x n h = omega (arith, h)
 
-fit_1 : (x n : ℕ) → x + n < 2 ^ 64 → x + n / 2 * 2 < 2 ^ 64
+pub fit_1 : (x n : ℕ) → x + n < 2 ^ 64 → x + n / 2 * 2 < 2 ^ 64
 fit_1 x n h = omega (arith, h)
 
 at_4 : (x n : ℕ) → x + 8 * (n / 8) ≡ x + n / 8 * 8

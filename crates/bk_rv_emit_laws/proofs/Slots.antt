@@ -17,7 +17,7 @@ use Rattle.bk_rv_isa.proofs.Memory.{store_stack, placed_windows, loads_stored, l
 use Rattle.bk_emit.specs.declared.blocks.Frame.{Frame}
 use Rattle.bk_emit.specs.declared.blocks.Spot.{Spot}
 use Rattle.bk_emit.specs.declared.blocks.Spot.TheVariants.{Register, Word}
-use Rattle.bk_rv_emit_laws.specs.Leaving.{Keeps, Leaves}
+use Rattle.bk_rv_emit_laws.specs.Leaving.{IsWell, Keeps, Leaves}
 use Rattle.bk_rv_emit_laws.specs.Frames.{IsHome, IsFrame, Holds, Leads, Spares, set, word_address}
 use Rattle.bk_rv_emit_laws.specs.Steps.{Makes, ValueMakes}
 use Rattle.bk_machine.proofs.Running.{then}
@@ -105,12 +105,12 @@ at_word f sp n m g h =
     ∙ ap (λ k. (sp + k) % 2 ^ 64) e
     ∙ mod-eq_of_lt (omega (arith, r, t, h))
 
--- a word of the frame in a register
-pub word_by : (f : Frame) (sp r base n v : ℕ) (z : ℤ) (m : Machine) → IsFrame f sp m → load m 8 (word_address f sp n) ≡ Some v → v < 2 ^ 64 → P.IsTarget r r → plus (reg m.regs base) z ≡ word_address f sp n → HasAt m.text m.pc (i.Load Ld r base z ∷ []) → Leaves (i.Load Ld r base z ∷ []) m r v
-word_by f sp r base n v z m g l b t at c =
-    let p0 = P.here r m g.well in
+-- a word of memory in a register
+pub word_by : (r base a v : ℕ) (z : ℤ) (m : Machine) → IsWell m → load m 8 a ≡ Some v → v < 2 ^ 64 → P.IsTarget r r → plus (reg m.regs base) z ≡ a → HasAt m.text m.pc (i.Load Ld r base z ∷ []) → Leaves (i.Load Ld r base z ∷ []) m r v
+word_by r base a v z m g l b t at c =
+    let p0 = P.here r m g in
     let p = P.write r m m r v (i.Load Ld r base z) p0 c.0
-    (ap (λ a. on_load m a (load m 8 a) (λ k. with_reg m r k)) at ∙ ap (λ o. on_load m (word_address f sp n) o (λ k. with_reg m r k)) l) b t in
+    (ap (λ x. on_load m x (load m 8 x) (λ k. with_reg m r k)) at ∙ ap (λ o. on_load m a o (λ k. with_reg m r k)) l) b t in
     P.ends (i.Load Ld r base z ∷ []) r m (with_reg m r v) v p refl (P.last r m m r v p0 t.some t.low)
 
 -- the instructions of a load and of a store near the stack pointer
@@ -122,7 +122,7 @@ near_store f r n = i.Store Sd r 2 (pos (8 * (f.out + n))) ∷ []
 
 pub word_in : (f : Frame) (sp r n v : ℕ) (m : Machine) → IsFrame f sp m → n ≤ f.slots → load m 8 (word_address f sp n) ≡ Some v → v < 2 ^ 64 → P.IsTarget r r → HasAt m.text m.pc (near_load f r n) → Leaves (near_load f r n) m r v
 unfolding near_load
-word_in f sp r n v m g h l b t c = word_by f sp r 2 n v (pos (8 * (f.out + n))) m g l b t (at_word f sp n m g h) c
+word_in f sp r n v m g h l b t c = word_by r 2 (word_address f sp n) v (pos (8 * (f.out + n))) m g.well l b t (at_word f sp n m g h) c
 
 pub near_load_makes : (f : Frame) (s : Spot → ℕ) (r n : ℕ) → IsHome r → n ≤ f.slots → Makes f (near_load f r n) s (set s (Register r) (s (Word n)))
 near_load_makes f s r n home l sp m g h c =

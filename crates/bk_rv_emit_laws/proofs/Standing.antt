@@ -15,7 +15,7 @@ use Rattle.bk_rv_emit_laws.specs.Jumps.{address}
 use Rattle.bk_rv_emit_laws.specs.Ends.{Stands}
 
 -- instructions whose fields fit are read from their words
-word_is : (i : Inst) → fits i ≡ true → word_of i ≡ word i
+pub word_is : (i : Inst) → fits i ≡ true → word_of i ≡ word i
 unfolding word_of
 word_is i h = ap (λ b. unwrap_or (cond b (Some (word i)) None) 0) h
 

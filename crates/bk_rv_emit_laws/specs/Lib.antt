@@ -8,3 +8,5 @@ pub mod Jumps
 pub mod Calls
 pub mod Ends
 pub mod Cuts
+pub mod Areas
+pub mod Patched

@@ -1,7 +1,7 @@
 -- What loads, stores and checks do to the data window, and traps.
-use Rattle.std.specs.Prelude.{◌≡◌, ◌≢◌, ◌<◌, ◌≤◌, ℕ, ◌+◌, ◌*◌, ◌%◌, ◌^◌, ◌==◌, if◌then◌else◌, false, ℤ, pos, List, [], ◌∷◌, length, Some, ◌⊎◌}
+use Rattle.std.specs.Prelude.{◌≡◌, ◌≢◌, ◌<◌, ◌≤◌, ℕ, ◌+◌, ◌*◌, ◌%◌, ◌^◌, ◌==◌, if◌then◌else◌, true, false, ℤ, pos, List, [], ◌∷◌, length, Some, ◌⊎◌}
 use Rattle.bk_num.specs.Word.{signed, residue}
-use Rattle.bk_ops.specs.Memory.{number_at, with_number, with_zeros}
+use Rattle.bk_ops.specs.Memory.{number_at, with_number, with_zeros, with_move}
 use Rattle.bk_rv_isa.specs.declared.inst.ImmediateOp.TheVariants.{Addi}
 use Rattle.bk_rv_isa.specs.declared.inst.Inst.{Inst}
 use Rattle.bk_rv_isa.specs.declared.inst.Inst.TheVariants as i
@@ -12,6 +12,7 @@ use Rattle.bk_rv_emit.specs.Units.{load_op, store_op, store_bool, nil_check, chu
 use Rattle.bk_rv_isa.specs.Machine.{Goes}
 use Rattle.bk_rv_emit_laws.specs.Leaving.{IsWell}
 use Rattle.bk_rv_emit_laws.specs.Does.{Does}
+use Rattle.bk_rv_emit_laws.specs.Octets.{AreBytes}
 
 -- a way that writes x31 alone, and this data window
 pub record Trail (m now : Machine) (d : List ℕ) : Type 0 where
@@ -75,3 +76,10 @@ abbrev pub ZeroDoes : Type 0
 ZeroDoes =
     (r : Regs) (n : ℕ) (m : Machine) (window : List ℕ) → IsWell m → r.a ≢ 31 → reg m.regs r.a + n < 2 ^ 64 → HasAt m.text m.pc (chunks false r n) →
     with_zeros m.window n (reg m.regs r.a) ≡ Some window → Writes (chunks false r n) m window
+
+-- the bytes at one address at another one, piece by piece
+abbrev pub MoveDoes : Type 0
+MoveDoes =
+    (r : Regs) (n : ℕ) (m : Machine) (window : List ℕ) → IsWell m → IsPlaced m → AreBytes m.window → r.a ≢ 31 → r.b ≢ 31 →
+    reg m.regs r.a + n < 2 ^ 64 → reg m.regs r.b + n < 2 ^ 64 → HasAt m.text m.pc (chunks true r n) →
+    with_move m.window n (reg m.regs r.a) (reg m.regs r.b) ≡ Some window → Writes (chunks true r n) m window

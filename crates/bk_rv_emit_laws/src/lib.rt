@@ -3,14 +3,16 @@
 
 ghost use Rattle.std.specs.Prelude.{ℕ};
 ghost use Rattle.bk_ops.specs.declared.family.RvOp.{RvOp};
+ghost use Rattle.bk_rv_emit_laws.specs.Areas.{WordLoads, WordStores};
 ghost use Rattle.bk_rv_emit_laws.specs.Calls.{EntryEnters, EntryTraps, LeaveReturns, CallCalls};
 ghost use Rattle.bk_rv_emit_laws.specs.Cuts.{LinesCut, WordsCut, InstsStand};
 ghost use Rattle.bk_rv_emit_laws.specs.Does.{UnitDoes, ConstDoes, AddrDoes};
 ghost use Rattle.bk_rv_emit_laws.specs.Ends.{SizesReach, JumpComes, BranchComes};
 ghost use Rattle.bk_rv_emit_laws.specs.Jumps.{JumpGoes, BranchGoes, JumpFits, BranchFits};
 ghost use Rattle.bk_rv_emit_laws.specs.Octets.{LoadsAreBelow, StoresAreBytes};
+ghost use Rattle.bk_rv_emit_laws.specs.Patched.{AddrBecomes, PoolBecomes, CallBecomes};
 ghost use Rattle.bk_rv_emit_laws.specs.Steps.{ValueMakes, LoadMakes, StoreMakes, MoveMakes, ComputeMakes, StepsMake};
-ghost use Rattle.bk_rv_emit_laws.specs.Windows.{IsSize, LoadDoes, StoreDoes, StoreBoolDoes, CheckPasses, CheckTraps, TrapDoes, ZeroDoes};
+ghost use Rattle.bk_rv_emit_laws.specs.Windows.{IsSize, LoadDoes, StoreDoes, StoreBoolDoes, CheckPasses, CheckTraps, TrapDoes, ZeroDoes, MoveDoes};
 
 /// A law: where the unit of a pure op stands, the machine goes through it and leaves the op's value in the unit's register; so do
 /// the units of constants and addresses.
@@ -20,8 +22,8 @@ pub fn units_compute()
     ensures addresses { AddrDoes }
 {}
 
-/// A law: in the data window loads read what stands there, stores of words and bits and zeros leave what the meaning says, and
-/// checks and traps go on or trap with their numbers.
+/// A law: in the data window loads read what stands there; stores of words and bits, zeros, and bytes that are moved leave what the
+/// meaning says; checks and traps go on or trap with their numbers.
 pub fn units_reach_memory()
     ensures loads { (w : ℕ) → IsSize w → LoadDoes w }
     ensures stores { (w : ℕ) → IsSize w → StoreDoes w }
@@ -30,6 +32,7 @@ pub fn units_reach_memory()
     ensures fails { CheckTraps }
     ensures traps { TrapDoes }
     ensures zeros { ZeroDoes }
+    ensures moves { MoveDoes }
 {}
 
 /// A law: a number that is loaded from bytes is below 256 to their count, and a store leaves bytes.
@@ -49,6 +52,13 @@ pub fn steps_move_values()
     ensures sequences { StepsMake }
 {}
 
+/// A law: the words of calls, which a function was given or gives back behind its frame and which it hands to its own calls below its
+/// slots, are loaded and stored by their offsets, near and far, and the frame's places hold what they held.
+pub fn words_of_calls_move()
+    ensures loads { WordLoads }
+    ensures stores { WordStores }
+{}
+
 /// A law: a jump of any form goes to its place, and a branch where what was tested is so, else behind itself; the fields of a form
 /// that reaches from one place to another fit.
 pub fn jumps_arrive()
@@ -66,6 +76,14 @@ pub fn calls_begin_and_end()
     ensures exhausted { EntryTraps }
     ensures endings { LeaveReturns }
     ensures calls { CallCalls }
+{}
+
+/// A law: the words of a unit that waits for an address are those of its instructions once the address, or for a call the distance, is
+/// in them: of an address, of a constant in the pool, of a call.
+pub fn patches_fill_units()
+    ensures addresses { AddrBecomes }
+    ensures constants { PoolBecomes }
+    ensures calls { CallBecomes }
 {}
 
 /// A law: lines stand one behind the other, and where the words of lines that are instructions stand, the instructions do.

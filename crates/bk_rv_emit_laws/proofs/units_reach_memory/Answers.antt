@@ -1,5 +1,6 @@
 use Rattle.bk_rv_emit_laws.proofs.Effects.{load_does, store_does, store_bool_does, check_passes, check_traps, trap_does}
 use Rattle.bk_rv_emit_laws.proofs.Pieces.{zero_does}
+use Rattle.bk_rv_emit_laws.proofs.Copies.{move_does}
 use Rattle.bk_rv_emit_laws.proofs.units_reach_memory.Goals as goal
 
 pub returns-clause-loads : goal.returns-clause-loads
@@ -22,3 +23,6 @@ returns-clause-traps c = trap_does
 
 pub returns-clause-zeros : goal.returns-clause-zeros
 returns-clause-zeros c = zero_does
+
+pub returns-clause-moves : goal.returns-clause-moves
+returns-clause-moves c = move_does
