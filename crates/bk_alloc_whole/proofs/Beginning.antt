@@ -23,7 +23,7 @@ use Rattle.bk_func.specs.Form.Text.{HasBlock, HasValue, IsPhi}
 use Rattle.bk_func.proofs.Faults.{In, filter-in, in-filter}
 use Rattle.bk_live.specs.Live.{IsLive, here, order_at}
 use Rattle.bk_live.proofs.Alone.{contains_at, found as counted_there}
-use Rattle.bk_sched.proofs.Lists.{in_left, in_right, to_contains, to_in}
+use Rattle.bk_places.proofs.Elements.{in_left, in_right, to_contains, to_in}
 use Rattle.bk_alloc.specs.Blocks.{Next, PlanRecord, PhiRecord, controls, phi_of}
 use Rattle.bk_alloc.specs.Placement.{control_of, has_word, has_word_of, is_phi_value, is_scheduled, is_word, is_word_phi, task_of}
 use Rattle.bk_alloc_quality.specs.Pressure.{AreApart, ArePassed, IsBegun, IsFlow, IsUsed, values_of}

@@ -24,7 +24,7 @@ use Rattle.bk_graph.specs.Joined.{IsJoined}
 use Rattle.bk_graph.proofs.Listed.{counted_at}
 use Rattle.bk_live.specs.Live.{here, leave, order_at}
 use Rattle.bk_live.proofs.Alone.{at_contains, contains_at, counted}
-use Rattle.bk_sched.proofs.Lists.{to_in}
+use Rattle.bk_places.proofs.Elements.{to_in}
 use Rattle.bk_alloc.specs.Blocks.{Next, PhiRecord, phi_of, source_by, source_of}
 use Rattle.bk_alloc.specs.Placement.{has_word, has_word_of, is_phi_value, is_word, is_word_phi}
 use Rattle.bk_alloc_quality.specs.Pressure.{IsUsed}

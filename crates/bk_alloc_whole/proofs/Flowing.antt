@@ -10,7 +10,7 @@ use Rattle.bk_func.specs.Form.Text.{Defines, HasBlock, IsPhi}
 use Rattle.bk_func.proofs.Faults.{In, in-filter}
 use Rattle.bk_live.specs.Live.{AllNextUses, IsEntry, IsLive, IsOrdered, here, order_at, pass}
 use Rattle.bk_live.proofs.Alone.{contains_at, entry_alone}
-use Rattle.bk_sched.proofs.Lists.{in_right, to_contains, to_in}
+use Rattle.bk_places.proofs.Elements.{in_right, to_contains, to_in}
 use Rattle.bk_alloc.specs.Blocks.{Next}
 use Rattle.bk_alloc.specs.Placement.{is_word, task_of}
 use Rattle.bk_alloc_quality.specs.Pressure.{AreApart, ArePassed, IsPassed, values_of}

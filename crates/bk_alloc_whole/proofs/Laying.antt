@@ -18,7 +18,7 @@ use Rattle.bk_graph.specs.Layout.{block_named, if_unplaced, is_placed, is_ready,
 use Rattle.bk_graph.proofs.Crossing.{counted_once}
 use Rattle.bk_live.specs.Live.{IsOrdered}
 use Rattle.bk_live.proofs.Alone.{at_contains, block_alone, contains_at, found as counted_there}
-use Rattle.bk_sched.proofs.Lists.{to_contains, to_in}
+use Rattle.bk_places.proofs.Elements.{to_contains, to_in}
 use Rattle.bk_alloc_quality.proofs.Allotting.{found, found_in}
 use Rattle.bk_alloc_whole.proofs.Words.{any_in}
 

@@ -22,7 +22,7 @@ use Rattle.bk_graph.specs.Joined.{IsJoined}
 use Rattle.bk_live.specs.Live.{AllNextUses, IsOrdered, order_at}
 use Rattle.bk_live.proofs.Alone.{at_contains, contains_at}
 use Rattle.bk_sched.specs.Schedule.{Scheduled}
-use Rattle.bk_sched.proofs.Lists.{in_right, in_left, to_contains, to_in}
+use Rattle.bk_places.proofs.Elements.{in_right, in_left, to_contains, to_in}
 use Rattle.bk_alloc.specs.Blocks.{Next, PlanRecord, begun, first_map, phis_of}
 use Rattle.bk_alloc.specs.Placement.{has_word_of, is_phi_value, is_scheduled, is_word, laid_out, plan_of, planned, task_of}
 use Rattle.bk_alloc.specs.Registers.{Registers, Uses, freed, is_open, while_used}

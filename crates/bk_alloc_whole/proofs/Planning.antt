@@ -16,7 +16,7 @@ use Rattle.bk_live.proofs.Alone.{at_contains, contains_at}
 use Rattle.bk_sched.specs.Schedule.{Scheduled}
 use Rattle.bk_sched.proofs.Agreeing.{phis as phis_first}
 use Rattle.bk_sched.proofs.Keeping.{in_scheduled}
-use Rattle.bk_sched.proofs.Lists.{in_either, to_contains, to_in}
+use Rattle.bk_places.proofs.Elements.{in_either, to_contains, to_in}
 use Rattle.bk_alloc.specs.Blocks.{Next, PlanRecord}
 use Rattle.bk_alloc.specs.Placement.{is_phi_value, is_word, laid_out, ordered, plan_at, plan_by, plan_of, planned}
 use Rattle.bk_alloc_quality.proofs.Allotting.{found_in, not_found}

@@ -19,7 +19,7 @@ use Rattle.bk_func.specs.Form.Signatures.{Setting}
 use Rattle.bk_func.specs.Form.Text.{HasValue}
 use Rattle.bk_func.proofs.Faults.{In}
 use Rattle.bk_live.specs.Live.{IsOrdered}
-use Rattle.bk_sched.proofs.Lists.{to_in}
+use Rattle.bk_places.proofs.Elements.{to_in}
 use Rattle.bk_alloc.specs.Placement.{has_word, has_word_of, role_by, role_of, task_of}
 use Rattle.bk_alloc.specs.Registers.{Registers, Uses, is_open, put}
 use Rattle.bk_alloc.specs.Tasks.{TaskRecord, after_task, passing}

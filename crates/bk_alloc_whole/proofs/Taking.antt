@@ -20,7 +20,7 @@ use Rattle.bk_func.proofs.Faults.{In}
 use Rattle.bk_sched.specs.Order.{ComesBefore, Precedes, are_results, is_call, is_state, argument, state, checks, needed, unneeded, right, onward}
 use Rattle.bk_sched.specs.Schedule.{IsReady, Scheduled, done, next, rank_by, rank_of}
 use Rattle.bk_sched.proofs.Keeping.{in_scheduled}
-use Rattle.bk_sched.proofs.Lists.{in_either, to_contains}
+use Rattle.bk_places.proofs.Elements.{in_either, to_contains}
 use Rattle.bk_alloc.specs.Placement.{has_word_of}
 use Rattle.bk_alloc_whole.specs.Whole.{TakesWord}
 

@@ -14,7 +14,7 @@ use Rattle.bk_live.proofs.Alone.{contains_at, entry_value, value_entry}
 use Rattle.bk_sched.specs.Order as sched
 use Rattle.bk_sched.specs.Schedule.{Scheduled}
 use Rattle.bk_sched.proofs.Keeping.{in_scheduled, keeps}
-use Rattle.bk_sched.proofs.Lists.{to_contains}
+use Rattle.bk_places.proofs.Elements.{to_contains}
 use Rattle.bk_alloc_whole.specs.Whole.{AreScheduled}
 use Rattle.bk_alloc_whole.proofs.Alone.{same}
 

@@ -7,7 +7,7 @@ use Rattle.bk_func.specs.Records.{ValueRecord, BlockRecord, FuncRecord}
 use Rattle.bk_func.specs.Form.Text.{HasValue}
 use Rattle.bk_func.proofs.Faults.{In, filter-in, in-filter}
 use Rattle.bk_live.specs.Live.{AllNextUses, IsLive, IsOrdered, NextUseIs, order_at}
-use Rattle.bk_sched.proofs.Lists.{in_either, in_left, in_right, to_contains, to_in}
+use Rattle.bk_places.proofs.Elements.{in_either, in_left, in_right, to_contains, to_in}
 use Rattle.bk_alloc.specs.Blocks.{Next}
 use Rattle.bk_alloc.specs.Placement.{has_word, is_word, is_word_named}
 use Rattle.bk_alloc_quality.specs.Pressure.{IsUsed, is_used}

@@ -3,6 +3,7 @@
 
 mod arithmetic;
 mod errors;
+mod known;
 mod machine;
 mod memory;
 mod operands;

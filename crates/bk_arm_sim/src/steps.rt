@@ -8,18 +8,19 @@ ghost use Rattle.bk_arm_sim.specs.View.{view, ended};
 use crate::arithmetic::{
     data_result, extended, move_result, plus, product_from, quotient, signed_quotient,
 };
+use crate::known::Known;
 use crate::machine::Machine;
 use crate::memory::{load_register, store_register};
 use crate::operands::{operand, reg, test_flags};
 use crate::registers::{put, set};
 use crate::status::{condition, pack, passes, unpack};
-use bk_arm_isa::{Inst, decode};
+use bk_arm_isa::Inst;
 use bk_machine::Stop;
 use bk_num::{HALT, TEXT_BASE, hmul};
 
 const LINK: u8 = 14;
 
-fn fetch(text: &[u32], pc: u64) -> Option<Inst>
+fn fetch(known: &mut Known, text: &[u32], pc: u64) -> Option<Inst>
     requires { length text.now ≤ 4194304 }
     ensures value { result ≡ fetch text.now pc }
     ensures pc { IsSome result → pc < 2 ^ 31 }
@@ -27,8 +28,9 @@ fn fetch(text: &[u32], pc: u64) -> Option<Inst>
     if pc < TEXT_BASE || pc % 4 != 0 {
         return None;
     }
-    let word = text.get(((pc - TEXT_BASE) / 4) as usize)?;
-    decode(*word)
+    let place = ((pc - TEXT_BASE) / 4) as usize;
+    let word = text.get(place)?;
+    known.decode(place, *word)
 }
 
 // A branch by words.
@@ -209,18 +211,26 @@ fn act(machine: &mut Machine, inst: Inst) -> Option<Stop>
     }
 }
 
-/// One step: the stop if there is one.
-pub fn step(machine: &mut Machine) -> Option<Stop>
+// One step, with the words that were read before.
+fn step_by(machine: &mut Machine, known: &mut Known) -> Option<Stop>
     ensures state { (result, view machine.new) ≡ step (view machine.old) }
     ensures sig { machine.new.sig ≡ machine.old.sig }
 {
     if machine.pc == HALT {
         return Some(Stop::Returned);
     }
-    match fetch(&machine.text, machine.pc) {
+    match fetch(known, &machine.text, machine.pc) {
         Some(inst) => act(machine, inst),
         None => Some(Stop::Fault(machine.pc)),
     }
+}
+
+/// One step: the stop if there is one.
+pub fn step(machine: &mut Machine) -> Option<Stop>
+    ensures state { (result, view machine.new) ≡ step (view machine.old) }
+    ensures sig { machine.new.sig ≡ machine.old.sig }
+{
+    step_by(machine, &mut Known::new())
 }
 
 /// At most `bound` steps, up to the first stop: Going where none of them stopped.
@@ -228,8 +238,9 @@ pub fn run(machine: &mut Machine, bound: u64) -> Stop
     ensures state { (result, view machine.new) ≡ ended (run bound (view machine.old)) }
     ensures sig { machine.new.sig ≡ machine.old.sig }
 {
+    let mut known = Known::new();
     for _step in 0..bound {
-        if let Some(stop) = step(machine) {
+        if let Some(stop) = step_by(machine, &mut known) {
             return stop;
         }
     }

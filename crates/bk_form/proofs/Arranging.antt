@@ -1,25 +1,26 @@
 -- That the edges of groups and of what is taken are those of values that come right before others.
-use Rattle.std.proofs.Common.{◌≡◌, ◌∙◌, sym, refl, ap, subst, ℕ, zero, suc, ◌+◌, ◌-◌, ◌<◌, ◌≤◌, ◌↔◌, List, [], length, get_or, replicate, Option, None, Some, inl, inr, ⊎_elim, arith}
+use Rattle.std.proofs.Common.{◌≡◌, ◌∙◌, sym, refl, ap, subst, ℕ, ◌+◌, ◌-◌, ◌<◌, ◌≤◌, List, [], length, get_or, Option, None, Some, inl, inr, ⊎_elim, arith}
 use Rattle.std.specs.List.{Contains, slice_get}
 use Rattle.std.proofs.lemmas.Bool.{cases_lt}
-use Rattle.std.proofs.lemmas.List.{get_or_default, get_or_past, get_or-replicate, length-replicate}
+use Rattle.std.proofs.lemmas.List.{get_or_past, length-replicate}
 use Rattle.std.proofs.lemmas.List.Elements.{Contains-get_or}
 use Rattle.std.proofs.lemmas.Option.{same_Some, slice_get_within}
 use Rattle.bk_func.specs.Records.{ValueRecord, BlockRecord, FuncRecord}
 use Rattle.bk_func.specs.Form.States.{Names, IsState}
 use Rattle.bk_func.specs.Form.Before.{IsLoad, IsNilCheck, Needs, Checks, ComesBefore, argument, state, checks, needed, unneeded, Precedes, right, onward as further}
-use Rattle.bk_form.specs.declared.order.Lists.{Lists}
-use Rattle.bk_form.specs.declared.order.Role.TheVariants.{Check, Load as Loading, User}
-use Rattle.bk_form.specs.Arranged.{Adds, AreLists, AreTakes, Follows, IsAsked, IsEnd, IsLastBefore, IsNextAt, IsRightBefore, PlaysAt}
+use Rattle.bk_places.proofs.Leading.{before_in, index_of, AreRightBefore, right_edge, line_leads, check_leads}
+use Rattle.bk_places.specs.declared.order.Lists.{Lists}
+use Rattle.bk_places.specs.declared.role.Role.TheVariants.{Check, Load as Loading, User}
+use Rattle.bk_places.proofs.Elements.{none_in, at_some}
+use Rattle.bk_places.specs.Order.{Follows, IsAsked, IsEnd, IsLastBefore, IsRightBefore}
+use Rattle.bk_places.specs.Search.{Leads, IsEdge, Path, here, onward}
+use Rattle.bk_form.specs.Arranged.{AreLists, AreTakes, IsNextAt, PlaysAt}
 use Rattle.bk_form.specs.Groups.{AreGroupsOf, AreListed}
-use Rattle.bk_form.specs.Orders.{IsOrder, Leads}
+use Rattle.bk_form.specs.Orders.{IsOrder}
 use Rattle.bk_form.specs.Places.{NodeRecord, node_at, nodes_of}
-use Rattle.bk_form.specs.Search.{IsEdge, Path, here, onward}
 use Rattle.bk_form.proofs.Copied.{AreValues}
-use Rattle.bk_form.proofs.Members.{none_in}
 use Rattle.bk_form.proofs.Needing.{in_block, listed_from, listed_to, taken_edge, needs_path, path_needs}
-use Rattle.bk_form.proofs.Rounding.{leads_on}
-use Rattle.bk_form.proofs.Standing.{at_some, node_in}
+use Rattle.bk_form.proofs.Standing.{node_in}
 
 -- no value is a check and a load
 not_both : (v : ValueRecord) → IsNilCheck v → IsLoad v → ⊥
@@ -62,19 +63,6 @@ joins f gs groups P Q es listed g i p q s u v x eq nu nv fact =
     let (h, gp, gq) = groups.one p q s (node_at i u) (node_at i v) x.at eq refl nu nv in
     let same : h ≡ g = same_Some h g (sym gp ∙ x.group) in
     (listed.each g q).1 (node_at i v, eq, gq ∙ ap Some same, fact)
-
--- places of a rising list
-index_of : (xs : List ℕ) (p : ℕ) → Contains xs p → (k : ℕ) × k < length xs × (get_or xs k 0 ≡ p)
-index_of xs p (k, l, e) = (k, l, get_or_default xs k 0 p l ∙ e)
-
-before_in : (xs : List ℕ) → ((j k : ℕ) → j < k → k < length xs → get_or xs j 0 < get_or xs k 0) → (j k : ℕ) → j < length xs → k < length xs → get_or xs j 0 < get_or xs k 0 → j < k
-before_in xs rising j k a b l = ⊎_elim
-    (λ (low : j < k). low)
-    (λ (high : k ≤ j). ⊎_elim
-    (λ (less : k < j). absurd (omega (arith, rising k j less a)))
-    (λ (same : j ≤ k). let is : j ≡ k = omega arith in absurd (omega (arith, ap (λ n. get_or xs n 0) is)))
-    (cases_lt k j))
-    (cases_lt j k)
 
 -- a check of the state that needs the value stands in the list of checks, and a path leads from it
 check_path : (f : FuncRecord) (gs : List (Option ℕ)) → AreGroupsOf f gs → (es : List (List ℕ)) → AreTakes f es → (l : Lists) → AreLists f gs l → (P : ℕ → NodeRecord → Type 0) (g i p q s : ℕ)
@@ -194,76 +182,22 @@ precedes_then : (f : FuncRecord) (b : BlockRecord) (u v w : ValueRecord) → Pre
 precedes_then f b _ _ w (right u v c) more = further u v w c (right v w more)
 precedes_then f b _ _ w (further t u v c rest) more = further t u w c (precedes_then f b u v w rest more)
 
--- the edges of the order
-abbrev pub AreRightBefore : List (List ℕ) → Lists → List (List ℕ) → Type 0
-AreRightBefore es l ds = Adds (replicate (length es) []) (IsRightBefore es l (length es)) ds
-
-right_edge : (es : List (List ℕ)) (l : Lists) (ds : List (List ℕ)) → AreRightBefore es l ds → (p q : ℕ) → IsEdge ds p q ↔ IsRightBefore es l (length es) p q
-right_edge es l ds adds p q = (
-  (λ e. ⊎_elim (λ c. absurd (none_in q (subst (λ (us : List ℕ). Contains us q) (nothing p) c))) (λ r. r) ((adds.edge p q).0 e)),
-  (λ r. (adds.edge p q).1 (inr r)),
-)
-  where
-    nothing : (p : ℕ) → get_or {A = List ℕ} (replicate (length es) []) p [] ≡ []
-    nothing p = ⊎_elim (λ (b : p < length es). get_or-replicate (length es) p [] [] b) (λ c. get_or_past (replicate (length es) []) p [] (rw length-replicate c)) (cases_lt p (length es))
-
 path_precedes : (f : FuncRecord) → AreValues f → (gs : List (Option ℕ)) → AreGroupsOf f gs → (es : List (List ℕ)) → AreTakes f es → (l : Lists) → AreLists f gs l → (ds : List (List ℕ))
-    → AreRightBefore es l ds → (i : ℕ) (b : BlockRecord) (u x : ValueRecord) → slice_get f.blocks i ≡ Some b → (a t q : ℕ) → Path ds a t q → slice_get (nodes_of f) t ≡ Some (node_at i x)
+    → AreRightBefore es l (length es) ds → (i : ℕ) (b : BlockRecord) (u x : ValueRecord) → slice_get f.blocks i ≡ Some b → (a t q : ℕ) → Path ds a t q → slice_get (nodes_of f) t ≡ Some (node_at i x)
     → ComesBefore f b u x → (v : ValueRecord) × (slice_get (nodes_of f) q ≡ Some (node_at i v)) × Precedes f b u v
 path_precedes f values gs groups es taking l lists ds adds i b u x eb a t _ (here within) et c = (x, et, right u x c)
 path_precedes f values gs groups es taking l lists ds adds i b u x eb a t _ (onward r q path apart edge within) et c =
     let (y, er, front) = path_precedes f values gs groups es taking l lists ds adds i b u x eb a t r path et c in
-    let (v, eq, more) = edge_comes f values gs groups es taking l lists (length es) i r q b y eb er ((right_edge es l ds adds r q).0 edge) in
+    let (v, eq, more) = edge_comes f values gs groups es taking l lists (length es) i r q b y eb er ((right_edge es l (length es) ds adds r q).0 edge) in
     (v, eq, precedes_then f b u y v front more)
 
--- along a line of checks
-line_leads : (es : List (List ℕ)) (l : Lists) (ds : List (List ℕ)) → AreRightBefore es l ds → (g : ℕ) → g < length es → ((p : ℕ) → Contains (get_or l.checks g []) p → p < length es)
-    → (j k : ℕ) → j + 1 + k < length (get_or l.checks g []) → Leads ds (get_or (get_or l.checks g []) j 0) (get_or (get_or l.checks g []) (j + 1 + k) 0)
-line_leads es l ds adds g low within j zero short =
-    let xs = get_or l.checks g [] in
-    let inside = within (get_or xs (j + 1) 0) (Contains-get_or xs (j + 1) 0 (omega arith)) in
-    let size : length ds ≡ length es = adds.size ∙ length-replicate (length es) [] in
-    let edge : IsEdge ds (get_or xs j 0) (get_or xs (j + 1) 0) = (right_edge es l ds adds (get_or xs j 0) (get_or xs (j + 1) 0)).1 (inr (g, low, inr (inl (j, omega arith, refl, refl)))) in
-    let one : Leads ds (get_or xs j 0) (get_or xs (j + 1) 0) = (get_or xs (j + 1) 0, edge, omega (arith, inside, size), here (omega (arith, inside, size))) in
-    let end : j + 1 ≡ j + 1 + 0 = omega arith in
-    subst (λ (n : ℕ). Leads ds (get_or xs j 0) (get_or xs n 0)) end one
-line_leads es l ds adds g low within j (suc k) short =
-    let xs = get_or l.checks g [] in
-    let n : j + 1 + suc k ≡ j + 1 + k + 1 = omega arith in
-    let inside = within (get_or xs (j + 1 + k + 1) 0) (Contains-get_or xs (j + 1 + k + 1) 0 (omega arith)) in
-    let size : length ds ≡ length es = adds.size ∙ length-replicate (length es) [] in
-    let edge : IsEdge ds (get_or xs (j + 1 + k) 0) (get_or xs (j + 1 + k + 1) 0) =
-    (right_edge es l ds adds (get_or xs (j + 1 + k) 0) (get_or xs (j + 1 + k + 1) 0)).1 (inr (g, low, inr (inl (j + 1 + k, omega arith, refl, refl)))) in
-    let one : Leads ds (get_or xs (j + 1 + k) 0) (get_or xs (j + 1 + k + 1) 0) =
-    (get_or xs (j + 1 + k + 1) 0, edge, omega (arith, inside, size), here (omega (arith, inside, size))) in
-    subst (λ (m : ℕ). Leads ds (get_or xs j 0) (get_or xs m 0)) (sym n)
-    (leads_on ds (get_or xs j 0) (get_or xs (j + 1 + k) 0) (get_or xs (j + 1 + k + 1) 0) (line_leads es l ds adds g low within j k (omega arith)) one)
-
--- from a check to a load by the last check before its end
-check_leads : (es : List (List ℕ)) (l : Lists) (ds : List (List ℕ)) → AreRightBefore es l ds → (g : ℕ) → g < length es → ((p : ℕ) → Contains (get_or l.checks g []) p → p < length es)
-    → (j e q : ℕ) → j < e → q < length es → Contains (get_or l.loads g []) q → IsEnd es (get_or l.checks g []) q e → Leads ds (get_or (get_or l.checks g []) j 0) q
-check_leads es l ds adds g low within j e q first inside c end =
-    let xs = get_or l.checks g [] in
-    let next : e ≡ e - 1 + 1 = omega arith in
-    let size : length ds ≡ length es = adds.size ∙ length-replicate (length es) [] in
-    let edge : IsEdge ds (get_or xs (e - 1) 0) q =
-    (right_edge es l ds adds (get_or xs (e - 1) 0) q).1 (inr (g, low, inr (inr (c, (e - 1, omega (arith, end.within), refl, subst (λ (n : ℕ). IsEnd es xs q n) next end))))) in
-    let one : Leads ds (get_or xs (e - 1) 0) q = (q, edge, omega (arith, size), here (omega (arith, size))) in
-    ⊎_elim
-    (λ (less : j < e - 1).
-    let n : j + 1 + (e - 1 - (j + 1)) ≡ e - 1 = omega arith in
-    leads_on ds (get_or xs j 0) (get_or xs (e - 1) 0) q
-    (subst (λ (m : ℕ). Leads ds (get_or xs j 0) (get_or xs m 0)) n (line_leads es l ds adds g low within j (e - 1 - (j + 1)) (omega (arith, end.within)))) one)
-    (λ (over : e - 1 ≤ j). let same : e - 1 ≡ j = omega arith in subst (λ (m : ℕ). Leads ds (get_or xs m 0) q) same one)
-    (cases_lt j (e - 1))
-
 -- what comes right before is led to
-edge_leads : (f : FuncRecord) (es : List (List ℕ)) → AreTakes f es → (l : Lists) (ds : List (List ℕ)) → AreRightBefore es l ds → (p q : ℕ) (m : NodeRecord) → slice_get (nodes_of f) q ≡ Some m
+edge_leads : (f : FuncRecord) (es : List (List ℕ)) → AreTakes f es → (l : Lists) (ds : List (List ℕ)) → AreRightBefore es l (length es) ds → (p q : ℕ) (m : NodeRecord) → slice_get (nodes_of f) q ≡ Some m
     → IsRightBefore es l (length es) p q → Leads ds p q
 edge_leads f es taking l ds adds p q m eq h =
     let low = slice_get_within (nodes_of f) q m eq in
     let size : length ds ≡ length es = adds.size ∙ length-replicate (length es) [] in
-    (q, (right_edge es l ds adds p q).1 h, omega (arith, taking.size, size), here (omega (arith, taking.size, size)))
+    (q, (right_edge es l (length es) ds adds p q).1 h, omega (arith, taking.size, size), here (omega (arith, taking.size, size)))
 
 pub listed_within : (f : FuncRecord) (gs : List (Option ℕ)) (es : List (List ℕ)) → AreTakes f es → (P : ℕ → NodeRecord → Type 0) (xs : List (List ℕ)) → AreListed f gs P xs → (g p : ℕ)
     → Contains (get_or xs g []) p → p < length es
@@ -286,7 +220,7 @@ none_before f values gs groups es taking l lists g i p q s j b u v eb m names eq
     h in
     (n.value, er, (inside, z.fact, named), needs)
 
-whole : (f : FuncRecord) → AreValues f → (gs : List (Option ℕ)) → AreGroupsOf f gs → (es : List (List ℕ)) → AreTakes f es → (l : Lists) → AreLists f gs l → (ds : List (List ℕ)) → AreRightBefore es l ds
+whole : (f : FuncRecord) → AreValues f → (gs : List (Option ℕ)) → AreGroupsOf f gs → (es : List (List ℕ)) → AreTakes f es → (l : Lists) → AreLists f gs l → (ds : List (List ℕ)) → AreRightBefore es l (length es) ds
     → (i : ℕ) (b : BlockRecord) → slice_get f.blocks i ≡ Some b → (u v : ValueRecord) → ComesBefore f b u v → (p q : ℕ) → slice_get (nodes_of f) p ≡ Some (node_at i u)
     → slice_get (nodes_of f) q ≡ Some (node_at i v) → Leads ds p q
 whole f values gs groups es taking l lists ds adds i b eb _ _ (argument u v taken) p q ep eq =
@@ -308,7 +242,7 @@ whole f values gs groups es taking l lists ds adds i b eb _ _ (checks u v s cu c
     let n : j + 1 + (k - (j + 1)) ≡ k = omega arith in
     subst (λ (t : ℕ). Leads ds t q) aj
     (subst (λ (t : ℕ). Leads ds (get_or xs j 0) t) (ap (λ m. get_or xs m 0) n ∙ ak)
-    (line_leads es l ds adds g low (listed_within f gs es taking (PlaysAt Check) l.checks lists.checks g) j (k - (j + 1)) (omega arith)))
+    (line_leads es l (length es) ds adds g low (listed_within f gs es taking (PlaysAt Check) l.checks lists.checks g) j (k - (j + 1)) (omega arith)))
 whole f values gs groups es taking l lists ds adds i b eb _ _ (needed u v w s cu lv cw needs first listed) p q ep eq =
     let (g, gp, gq) = groups.one p q s (node_at i u) (node_at i v) ep eq refl cu.2 lv.2 in
     let low : g < length es = omega (arith, groups.within p g gp, taking.size) in
@@ -327,7 +261,7 @@ whole f values gs groups es taking l lists ds adds i b eb _ _ (needed u v w s cu
     } in
     let load = (lists.loads.each g q).1 (node_at i v, eq, gq, lv.1) in
     subst (λ (t : ℕ). Leads ds t q) aj
-    (check_leads es l ds adds g low (listed_within f gs es taking (PlaysAt Check) l.checks lists.checks g) j k q early
+    (check_leads es l (length es) ds adds g low (listed_within f gs es taking (PlaysAt Check) l.checks lists.checks g) j k q early
     (omega (arith, taking.size, slice_get_within (nodes_of f) q (node_at i v) eq)) load end)
 whole f values gs groups es taking l lists ds adds i b eb _ _ (unneeded u v s cu lv free) p q ep eq =
     let (g, gp, gq) = groups.one p q s (node_at i u) (node_at i v) ep eq refl cu.2 lv.2 in
@@ -342,16 +276,16 @@ whole f values gs groups es taking l lists ds adds i b eb _ _ (unneeded u v s cu
     } in
     let load = (lists.loads.each g q).1 (node_at i v, eq, gq, lv.1) in
     subst (λ (t : ℕ). Leads ds t q) aj
-    (check_leads es l ds adds g low (listed_within f gs es taking (PlaysAt Check) l.checks lists.checks g) j (length xs) q lj
+    (check_leads es l (length es) ds adds g low (listed_within f gs es taking (PlaysAt Check) l.checks lists.checks g) j (length xs) q lj
     (omega (arith, taking.size, slice_get_within (nodes_of f) q (node_at i v) eq)) load end)
 
 -- so the edges are those of the order
 pub order_is : (f : FuncRecord) → AreValues f → (gs : List (Option ℕ)) → AreGroupsOf f gs → (es : List (List ℕ)) → AreTakes f es → (l : Lists) → AreLists f gs l → (ds : List (List ℕ))
-    → AreRightBefore es l ds → IsOrder f ds
+    → AreRightBefore es l (length es) ds → IsOrder f ds
 order_is f values gs groups es taking l lists ds adds = record {
   size = omega (arith, adds.size, length-replicate {A = List ℕ} (length es) [], taking.size);
   sound = λ p q i b u o eb ep eq (t, edge, w, path).
-      let (x, et, c) = edge_comes f values gs groups es taking l lists (length es) i p t b u eb ep ((right_edge es l ds adds p t).0 edge) in
+      let (x, et, c) = edge_comes f values gs groups es taking l lists (length es) i p t b u eb ep ((right_edge es l (length es) ds adds p t).0 edge) in
       let (v, ev, front) = path_precedes f values gs groups es taking l lists ds adds i b u x eb (length ds) t q path et c in
       subst (λ (n : NodeRecord). Precedes f b u n.value) (same_Some (node_at i v) o (sym ev ∙ eq)) front;
   whole = λ p q i b u v eb ep eq c. whole f values gs groups es taking l lists ds adds i b eb u v c p q ep eq;

@@ -3,9 +3,9 @@ use Rattle.std.proofs.Common.{◌≡◌, ◌∙◌, sym, refl, ap, ℕ, ◌<◌,
 use Rattle.std.specs.List.{slice_get}
 use Rattle.std.proofs.lemmas.Bool.{cases_lt}
 use Rattle.std.proofs.lemmas.List.{get_or_past}
+use Rattle.bk_places.proofs.Filling.{Filled}
 use Rattle.bk_form.specs.Carried.{AreOpen, is_open, unmarked}
 use Rattle.bk_form.specs.declared.chains.Chain.{Chain}
-use Rattle.bk_form.proofs.Filling.{Filled}
 
 pub open_all : (es : List (List ℕ)) (cs : List Chain) (os : List (List ℕ)) (i : ℕ) → i ≡ length es
     → Filled (λ (p : ℕ) (us : List ℕ). us ≡ cond (is_open (slice_get cs p)) (get_or es p []) []) [] os i → AreOpen es cs os

@@ -9,14 +9,15 @@ use Rattle.bk_func.specs.Records.{ValueRecord, BlockRecord, FuncRecord}
 use Rattle.bk_func.specs.Form.States.{IsState, IsStateOf, IsLinked, first, more, IsChain, Names}
 use Rattle.bk_form.specs.declared.chains.Chain.{Chain}
 use Rattle.bk_form.specs.declared.chains.Chain.TheVariants.{Empty, Linked, Broken}
+use Rattle.bk_places.proofs.Elements.{none_in}
+use Rattle.bk_places.proofs.Marking.{marked_or}
+use Rattle.bk_places.specs.Search.{Reverses}
 use Rattle.bk_form.specs.Chains.{AreBefores, AreHomes, AreNamed, IsChainAt, IsChainOf, IsClosedBy, IsRun}
-use Rattle.bk_form.specs.Search.{Reverses}
 use Rattle.bk_form.specs.Naming.{NamesIf}
 use Rattle.bk_form.specs.Numbers.{value_ids}
 use Rattle.bk_form.specs.Places.{NodeRecord, node_at, nodes_of}
 use Rattle.bk_form.proofs.Copied.{AreValues, one_node}
-use Rattle.bk_form.proofs.Marking.{marked_or}
-use Rattle.bk_form.proofs.Members.{first_in, later_in, none_in, first_or_later, mapped_in, mapped_from}
+use Rattle.bk_form.proofs.Members.{first_in, later_in, first_or_later, mapped_in, mapped_from}
 use Rattle.bk_form.proofs.Running.{not_again, same_list}
 use Rattle.bk_form.proofs.Standing.{node_in, number_at, one_value}
 

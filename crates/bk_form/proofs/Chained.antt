@@ -4,11 +4,11 @@ use Rattle.std.specs.List.{Contains, slice_get}
 use Rattle.std.proofs.lemmas.Option.{none-some, same_Some}
 use Rattle.bk_form.specs.declared.chains.Links.{Links}
 use Rattle.bk_form.specs.declared.chains.Chain.TheVariants.{Empty, Linked, Broken}
+use Rattle.bk_places.proofs.Elements.{none_in, contains_at}
+use Rattle.bk_places.specs.Search.{IsEdge, Path}
 use Rattle.bk_form.specs.Chains.{IsRunOf, IsChainAt, AreLinks, IsClosedBy}
-use Rattle.bk_form.specs.Search.{IsEdge, Path}
-use Rattle.bk_form.proofs.Members.{first_in, none_in}
+use Rattle.bk_form.proofs.Members.{first_in}
 use Rattle.bk_form.proofs.Running.{Closes, after_in, not_again, one_before, run_end, path_run, one_start, run_all, run_whole}
-use Rattle.bk_form.proofs.Standing.{contains_at}
 
 -- the first of a list, and that there is none
 nothing_in : (ps : List ℕ) → slice_get ps 0 ≡ None → ps ≡ []

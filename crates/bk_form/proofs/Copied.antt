@@ -13,15 +13,15 @@ use Rattle.bk_func.specs.Form.Signatures.{Setting}
 use Rattle.bk_func.specs.Form.Text.{HasValue}
 use Rattle.bk_func.specs.Form.States.{CopiesMemory, StandsFor, itself, copied}
 use Rattle.bk_func.specs.Form.Parts.{IsValueNumber}
+use Rattle.bk_places.proofs.Elements.{none_in, contains_at, at_contains, at_some}
+use Rattle.bk_places.proofs.Reaching.{path_within}
+use Rattle.bk_places.proofs.Sowing.{Sown}
+use Rattle.bk_places.specs.Search.{IsEdge, Path, here, onward, with_edge}
 use Rattle.bk_form.specs.Numbers.{value_ids, sole}
 use Rattle.bk_form.specs.Places.{NodeRecord, node_at, nodes_from, nodes_of}
 use Rattle.bk_form.specs.Roots.{Copies, IsCopyAt, AreCopies, AreRoots}
-use Rattle.bk_form.specs.Search.{IsEdge, Path, here, onward, with_edge}
 use Rattle.bk_form.proofs.Bearers.{sole_is}
-use Rattle.bk_form.proofs.Members.{none_in}
-use Rattle.bk_form.proofs.Reaching.{path_within}
-use Rattle.bk_form.proofs.Sowing.{Sown}
-use Rattle.bk_form.proofs.Standing.{contains_at, at_contains, at_some, node_stands, node_for, node_of, node_alone}
+use Rattle.bk_form.proofs.Standing.{node_stands, node_for, node_of, node_alone}
 
 -- the numbers of values and of their arguments name one value each
 pub record AreValues (f : FuncRecord) : Type 0 where

@@ -7,17 +7,17 @@ use Rattle.bk_func.specs.Records.{BlockRecord, FuncRecord}
 use Rattle.bk_func.specs.Form.Text.{HasBlock}
 use Rattle.bk_func.specs.Form.Walks.{Walk, begin, onward, IsReached}
 use Rattle.bk_func.specs.Form.States.{IsStateOf, IsChain, Carries, made, kept, IsFirstState, IsLastState}
+use Rattle.bk_places.proofs.Elements.{none_in, contains_at, at_contains, at_some}
+use Rattle.bk_places.proofs.Reaching.{path_start, path_within}
+use Rattle.bk_places.specs.Search.{IsEdge, Path, here, onward as farther, PathFrom, IsMarked}
 use Rattle.bk_form.specs.Carried.{AreOpen, AreIncoming, AreDiffering, AreFirstStates, IsPlaceOf, is_open, out_of, source_of, unmarked}
 use Rattle.bk_form.specs.Chains.{AreChains, IsChainOf}
 use Rattle.bk_form.specs.declared.chains.Chain.{Chain}
 use Rattle.bk_form.specs.declared.chains.Chain.TheVariants.{Empty, Linked, Broken}
 use Rattle.bk_form.specs.Places.{NodeRecord, nodes_of}
-use Rattle.bk_form.specs.Search.{IsEdge, Path, here, onward as farther, PathFrom, IsMarked}
 use Rattle.bk_form.specs.Walks.{block_edges, IsRow}
 use Rattle.bk_form.proofs.Copied.{AreValues, one_node}
-use Rattle.bk_form.proofs.Members.{first_in, later_in, none_in}
-use Rattle.bk_form.proofs.Reaching.{path_start, path_within}
-use Rattle.bk_form.proofs.Standing.{contains_at, at_contains, at_some}
+use Rattle.bk_form.proofs.Members.{first_in, later_in}
 use Rattle.bk_form.proofs.Walked.{AreNamed, length_edges, step_edge, edge_step, walk_has, walk_all, reached_from, reached_to, same_place}
 
 heads : {x y : ℕ} {xs ys : List ℕ} → x ∷ xs ≡ y ∷ ys → x ≡ y

@@ -1,8 +1,8 @@
 -- The edges between blocks, found one by one.
-use Rattle.std.proofs.Common.{◌≡◌, ◌∙◌, sym, refl, ap, subst, ℕ, ◌+◌, ◌<◌, ◌≤◌, Bool, List, [], ◌∷◌, ◌++◌, map, length, get_or, set, take, replicate, Option, None, Some, ⊎_elim}
+use Rattle.std.proofs.Common.{◌≡◌, ◌∙◌, sym, refl, ap, subst, ℕ, ◌+◌, ◌<◌, ◌≤◌, Bool, List, [], ◌∷◌, ◌++◌, map, length, get_or, take, replicate, Option, None, Some, ⊎_elim}
 use Rattle.std.specs.List.{Contains, cons_option, filter_map, slice_get}
 use Rattle.std.proofs.lemmas.Bool.{cases_lt}
-use Rattle.std.proofs.lemmas.List.{take_more, take_all, map-append, map-set, get_or-map, length-replicate, get_or-replicate, get_or_past, replicate-append-replicate}
+use Rattle.std.proofs.lemmas.List.{take_more, take_all, map-append, length-replicate, get_or-replicate, get_or_past, replicate-append-replicate}
 use Rattle.std.proofs.lemmas.List.Elements.{filter_map-append}
 use Rattle.std.proofs.lemmas.Option.{none-some, slice_get_read}
 use Rattle.bk_func.specs.Records.{BlockRecord, FuncRecord}
@@ -48,9 +48,6 @@ edges_all f i old {xs} same l before =
 pub block_at : (f : FuncRecord) {xs : List BlockRecord} → xs ≡ f.blocks → (i : ℕ) (b : BlockRecord) → i < length xs → b ≡ get_or xs i b → slice_get f.blocks i ≡ Some b
 block_at f {xs} same i b l e = subst (λ (ys : List BlockRecord). slice_get ys i ≡ Some b) same (slice_get_read xs (length xs) i b refl l e)
 
-pub item_at : {A : Type 0} {xs ys : List A} → xs ≡ ys → (i : ℕ) (x : A) → i < length xs → x ≡ get_or xs i x → slice_get ys i ≡ Some x
-item_at {A} {xs} {ys} same i x l e = subst (λ (zs : List A). slice_get zs i ≡ Some x) same (slice_get_read xs (length xs) i x refl l e)
-
 pub item_in : {A : Type 0} {xs ys : List A} → xs ≡ ys → (i : ℕ) (x : A) → i < length xs → x ≡ get_or xs i x → Contains ys x
 item_in {A} {xs} {ys} same i x l e = subst (λ (zs : List A). Contains zs x) same (i, l, sym e)
 
@@ -69,14 +66,3 @@ none_rows es rows n none same reached tree = record {
   where
     nothing : (h : ℕ) → get_or {A = Option (List Bool)} (replicate n None) h None ≡ None
     nothing h = ⊎_elim (λ (b : h < n). get_or-replicate n h None None b) (λ a. get_or_past (replicate n None) h None (rw length-replicate a)) (cases_lt h n)
-
--- lists of edges: one more place without edges, and one more edge
-pub lists_more : {A B : Type 0} (h : A → B) (old new : List A) (v : A) (n : ℕ) (e : B) → map h old ≡ replicate n e → new ≡ old ++ v ∷ [] → h v ≡ e → map h new ≡ replicate (n + 1) e
-lists_more h old new v n e before after is =
-    ap (map h) after ∙ (map-append h old (v ∷ []) ∙ (ap (λ us. us ++ h v ∷ []) before ∙ (ap (λ x. replicate n e ++ x ∷ []) is ∙ replicate-append-replicate n 1 e)))
-
-pub edge_more : {A : Type 0} (h : A → List ℕ) (ls : List A) (i to : ℕ) (old new : A) (es : List (List ℕ)) → map h ls ≡ es → i < length ls → old ≡ get_or ls i old → h new ≡ h old ++ to ∷ []
-    → map h (set ls i new) ≡ set es i (get_or es i [] ++ to ∷ [])
-edge_more h ls i to old new es view within e grown =
-    let here : h old ≡ get_or (map h ls) i [] = ap h e ∙ sym (get_or-map h ls i old [] within) in
-    map-set h ls i new ∙ (ap (set (map h ls) i) (grown ∙ ap (λ us. us ++ to ∷ []) here) ∙ ap (λ us. set us i (get_or us i [] ++ to ∷ [])) view)

@@ -4,9 +4,9 @@ use Rattle.std.specs.List.{Contains, slice_get}
 use Rattle.std.proofs.lemmas.Bool.{cases_lt, false≢true}
 use Rattle.std.proofs.lemmas.List.{get_or_default, get_or_past}
 use Rattle.std.proofs.lemmas.List.Elements.{Contains-append_left, Contains-get_or, Contains-push, Contains-push_cases}
+use Rattle.bk_places.proofs.Elements.{none_in}
 use Rattle.bk_form.specs.Carried.{AreDiffering, Differs, Gathers, out_of}
 use Rattle.bk_form.specs.declared.chains.Chain.{Chain}
-use Rattle.bk_form.proofs.Members.{none_in}
 
 -- those below the index were looked at
 pub record GathersUpTo (P : ℕ → Type 0) (ps old : List ℕ) (i : ℕ) (new : List ℕ) : Type 0 where

@@ -1,28 +1,27 @@
 -- Groups of places, one place after the other.
-use Rattle.std.proofs.Common.{◌≡◌, ◌∙◌, sym, refl, ap, subst, ℕ, ◌+◌, ◌<◌, ◌≤◌, ◌↔◌, Bool, true, false, cond, List, [], ◌∷◌, ◌++◌, length, get_or, set, Option, None, Some, ⊎_elim, arith}
+use Rattle.std.proofs.Common.{◌≡◌, ◌∙◌, sym, refl, ap, subst, ℕ, ◌+◌, ◌<◌, ◌≤◌, ◌↔◌, Bool, true, false, cond, List, [], ◌∷◌, ◌++◌, length, get_or, Option, None, Some, ⊎_elim, arith}
 use Rattle.std.specs.BTreeMap.{get, BTreeMap, is_at}
-use Rattle.std.specs.List.{Contains, slice_get}
+use Rattle.std.specs.List.{slice_get}
 use Rattle.std.specs.Option.{is_some, unwrap_or}
 use Rattle.std.specs.Ordering.{nat_cmp, ordering_then, is_eq}
 use Rattle.std.specs.declared.cmp.Ordering.{Ordering}
 use Rattle.std.specs.declared.cmp.Ordering.TheVariants.{Less, Equal, Greater}
-use Rattle.std.proofs.lemmas.Bool.{cases_Bool, cases_eq, cases_lt, eqb-true, eq-eqb, false≢true}
-use Rattle.std.proofs.lemmas.List.{get_or_append_left, get_or_past, get_or_push, get_or-set_other, get_or-set_same, length-set, length_push}
-use Rattle.std.proofs.lemmas.List.Elements.{Contains-append_left, Contains-get_or, Contains-push, Contains-push_cases}
+use Rattle.std.proofs.lemmas.Bool.{cases_Bool, cases_lt, eqb-true, eq-eqb, false≢true}
+use Rattle.std.proofs.lemmas.List.{get_or_append_left, get_or_past, get_or_push, length_push}
 use Rattle.std.proofs.lemmas.Option.{none-some, same_Some, slice_get_within}
 use Rattle.bk_func.specs.Records.{FuncRecord}
 use Rattle.bk_func.specs.Form.States.{Names}
+use Rattle.bk_places.proofs.Elements.{at_some}
+use Rattle.bk_places.proofs.Filling.{Filled}
+use Rattle.bk_places.specs.Order.{AreMembers}
 use Rattle.bk_form.specs.Arranged.{IsNextAt}
 use Rattle.bk_form.specs.Chains.{AreHomes, AreNamed}
 use Rattle.bk_form.specs.Naming.{NamesIf}
 use Rattle.bk_form.specs.Places.{NodeRecord, nodes_of}
 use Rattle.bk_form.specs.Edges.{edge_cmp}
-use Rattle.bk_form.specs.Groups.{group_in, grouped, key_of, AreGroups, AreGroupsOf, AreMembers, AreListed, ArePicked}
-use Rattle.bk_form.specs.Search.{with_edge}
+use Rattle.bk_form.specs.Groups.{group_in, grouped, key_of, AreGroups, AreGroupsOf, AreListed, ArePicked}
 use Rattle.bk_form.proofs.Bearers.{is_at_number}
 use Rattle.bk_form.proofs.Copied.{AreValues, one_node}
-use Rattle.bk_form.proofs.Filling.{Filled}
-use Rattle.bk_form.proofs.Standing.{at_some}
 
 -- the groups of the places below the index, and the first place of each key
 pub record GroupedUpTo (ks : List (Option (ℕ × ℕ))) (i : ℕ) (m : BTreeMap (ℕ × ℕ) ℕ) (gs : List (Option ℕ)) : Type 0 where
@@ -162,95 +161,6 @@ groups_are ks i m gs g all = record {
         let is : j ≡ l = same_Some j h (sym at ∙ a) ∙ sym (same_Some l h (sym there ∙ b)) in
         e ∙ (ap Some (same_key x y j l found also is) ∙ sym f)
 
--- a list of chosen places, one more place being looked at
-pub members_more : (gs : List (Option ℕ)) (cs : List Bool) (i : ℕ) (es : List (List ℕ)) (o : Option ℕ) → ((p g : ℕ) → get_or gs p None ≡ Some g → g < length gs) → AreMembers gs cs i es
-    → o ≡ cond (get_or cs i false) (get_or gs i None) None → AreMembers gs cs (i + 1) (with_edge es o i)
-members_more gs cs i es None range m is = record {
-  size = m.size;
-  each = λ g p. (
-    λ c. let (b, at, is') = (m.each g p).0 c in (omega arith, at, is'),
-    λ (l, at, chosen). (m.each g p).1 (
-      ⊎_elim
-          (λ (b : p < i). b)
-          (λ (a : i ≤ p).
-          let last : p ≡ i = omega arith in
-          absurd (none-some g (is ∙ (ap (λ t. cond t (get_or gs i None) None) (ap (λ j. get_or cs j false) (sym last) ∙ chosen) ∙ (ap (λ j. get_or gs j None) (sym last) ∙ at)))))
-          (cases_lt p i),
-      at,
-      chosen,
-    ),
-  );
-  rising = m.rising;
-}
-members_more gs cs i es (Some x) range m is = record {
-  size = length-set es x (get_or es x [] ++ i ∷ []) ∙ m.size;
-  each = λ g p. ⊎_elim
-      (λ (same : g ≡ x). (to_same g p same, from_same g p same))
-      (λ (apart : g ≡ x → ⊥). (to_other g p apart, from_other g p apart))
-      (cases_eq g x);
-  rising = λ g j k l b. ⊎_elim (λ (same : g ≡ x). rising_same g j k same l b) (λ (apart : g ≡ x → ⊥). rising_other g j k apart l b) (cases_eq g x);
-}
-  where
-    chosen_is : (t : Bool) (h : Option ℕ) → Some x ≡ cond t h None → (t ≡ true) × (h ≡ Some x)
-    chosen_is true h e = (refl, sym e)
-    chosen_is false h e = absurd (none-some x (sym e))
-
-    here : (get_or cs i false ≡ true) × (get_or gs i None ≡ Some x)
-    here = chosen_is (get_or cs i false) (get_or gs i None) is
-
-    within : x < length es
-    within = omega (arith, m.size, range i x here.1)
-
-    at_same : (g : ℕ) → g ≡ x → get_or (set es x (get_or es x [] ++ i ∷ [])) g [] ≡ get_or es x [] ++ i ∷ []
-    at_same g same = ap (λ j. get_or (set es x (get_or es x [] ++ i ∷ [])) j []) same ∙ get_or-set_same es x (get_or es x [] ++ i ∷ []) [] within
-
-    at_other : (g : ℕ) → (g ≡ x → ⊥) → get_or (set es x (get_or es x [] ++ i ∷ [])) g [] ≡ get_or es g []
-    at_other g apart = get_or-set_other es x g (get_or es x [] ++ i ∷ []) [] apart
-
-    to_same : (g p : ℕ) → g ≡ x → Contains (get_or (set es x (get_or es x [] ++ i ∷ [])) g []) p → p < i + 1 × (get_or gs p None ≡ Some g) × (get_or cs p false ≡ true)
-    to_same g p same c = ⊎_elim
-        (λ old. let (b, at, chosen) = (m.each x p).0 old in (omega arith, at ∙ ap Some (sym same), chosen))
-        (λ (new : i ≡ p). (omega arith, ap (λ j. get_or gs j None) (sym new) ∙ (here.1 ∙ ap Some (sym same)), ap (λ j. get_or cs j false) (sym new) ∙ here.0))
-        (Contains-push_cases (get_or es x []) i p (subst (λ (us : List ℕ). Contains us p) (at_same g same) c))
-
-    from_same : (g p : ℕ) → g ≡ x → p < i + 1 × (get_or gs p None ≡ Some g) × (get_or cs p false ≡ true) → Contains (get_or (set es x (get_or es x [] ++ i ∷ [])) g []) p
-    from_same g p same (l, at, chosen) = subst (λ (us : List ℕ). Contains us p) (sym (at_same g same)) (⊎_elim
-        (λ (b : p < i). Contains-append_left (get_or es x []) (i ∷ []) p ((m.each x p).1 (b, at ∙ ap Some same, chosen)))
-        (λ (a : i ≤ p). let last : i ≡ p = omega arith in subst (λ (j : ℕ). Contains (get_or es x [] ++ i ∷ []) j) last (Contains-push (get_or es x []) i))
-        (cases_lt p i))
-
-    to_other : (g p : ℕ) → (g ≡ x → ⊥) → Contains (get_or (set es x (get_or es x [] ++ i ∷ [])) g []) p → p < i + 1 × (get_or gs p None ≡ Some g) × (get_or cs p false ≡ true)
-    to_other g p apart c =
-        let (b, at, chosen) = (m.each g p).0 (subst (λ (us : List ℕ). Contains us p) (at_other g apart) c) in (omega arith, at, chosen)
-
-    from_other : (g p : ℕ) → (g ≡ x → ⊥) → p < i + 1 × (get_or gs p None ≡ Some g) × (get_or cs p false ≡ true) → Contains (get_or (set es x (get_or es x [] ++ i ∷ [])) g []) p
-    from_other g p apart (l, at, chosen) = subst (λ (us : List ℕ). Contains us p) (sym (at_other g apart)) ((m.each g p).1 (
-      ⊎_elim
-          (λ (b : p < i). b)
-          (λ (a : i ≤ p). let last : p ≡ i = omega arith in absurd (apart (same_Some g x (sym at ∙ (ap (λ j. get_or gs j None) last ∙ here.1)))))
-          (cases_lt p i),
-      at,
-      chosen,
-    ))
-
-    below : (j : ℕ) → j < length (get_or es x []) → get_or (get_or es x []) j 0 < i
-    below j b = ((m.each x (get_or (get_or es x []) j 0)).0 (Contains-get_or (get_or es x []) j 0 b)).0
-
-    pushed : (j k : ℕ) → j < k → k < length (get_or es x [] ++ i ∷ []) → get_or (get_or es x [] ++ i ∷ []) j 0 < get_or (get_or es x [] ++ i ∷ []) k 0
-    pushed j k l b =
-        let long = length_push (get_or es x []) i in
-        let low : get_or (get_or es x [] ++ i ∷ []) j 0 ≡ get_or (get_or es x []) j 0 = get_or_append_left (get_or es x []) (i ∷ []) 0 j (omega (arith, long)) in
-        ⊎_elim
-        (λ (c : k < length (get_or es x [])). omega (arith, low, get_or_append_left (get_or es x []) (i ∷ []) 0 k c, m.rising x j k l c))
-        (λ (d : length (get_or es x []) ≤ k). omega (arith, low, get_or_push (get_or es x []) i 0 k (omega (arith, long)), below j (omega (arith, long))))
-        (cases_lt k (length (get_or es x [])))
-
-    rising_same : (g j k : ℕ) → g ≡ x → j < k → k < length (get_or (set es x (get_or es x [] ++ i ∷ [])) g []) → get_or (get_or (set es x (get_or es x [] ++ i ∷ [])) g []) j 0 < get_or (get_or (set es x (get_or es x [] ++ i ∷ [])) g []) k 0
-    rising_same g j k same l b = subst (λ (us : List ℕ). j < k → k < length us → get_or us j 0 < get_or us k 0) (sym (at_same g same)) (pushed j k) l b
-
-    rising_other : (g j k : ℕ) → (g ≡ x → ⊥) → j < k → k < length (get_or (set es x (get_or es x [] ++ i ∷ [])) g []) → get_or (get_or (set es x (get_or es x [] ++ i ∷ [])) g []) j 0 < get_or (get_or (set es x (get_or es x [] ++ i ∷ [])) g []) k 0
-    rising_other g j k apart l b = subst (λ (us : List ℕ). j < k → k < length us → get_or us j 0 < get_or us k 0) (sym (at_other g apart)) (m.rising g j k) l b
-
 -- the key of a value of a group, and the state that a value names, by place
 key_at : (f : FuncRecord) (ns : List (Option ℕ)) (ks : List (Option (ℕ × ℕ))) (gs : List (Option ℕ)) → AreGroups ks gs
     → ((p : ℕ) (m : NodeRecord) → slice_get (nodes_of f) p ≡ Some m → get_or ks p None ≡ key_of m.home (get_or ns p None)) → (p g : ℕ) (m : NodeRecord) → slice_get (nodes_of f) p ≡ Some m
@@ -314,7 +224,7 @@ groups_named f values ns named ks gs groups long keys = record {
         by (Some k) h = let (x, gx, low) = groups.some p k h in omega (arith, same_Some x g (sym gx ∙ at), long)
 
 -- the members of groups are listed
-pub listed_of : (f : FuncRecord) (gs : List (Option ℕ)) → AreGroupsOf f gs → (P : ℕ → NodeRecord → Type 0) (cs : List Bool) (es : List (List ℕ)) → ArePicked f P cs → AreMembers gs cs (length gs) es
+pub listed_of : (f : FuncRecord) (gs : List (Option ℕ)) → AreGroupsOf f gs → (P : ℕ → NodeRecord → Type 0) (cs : List Bool) (es : List (List ℕ)) → ArePicked f P cs → AreMembers (length gs) gs cs (length gs) es
     → AreListed f gs P es
 listed_of f gs groups P cs es picked m = record {
   size = m.size ∙ groups.size;

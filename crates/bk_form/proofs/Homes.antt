@@ -8,14 +8,15 @@ use Rattle.std.proofs.lemmas.Option.{get_or_from_slice_get, none-some, same_Some
 use Rattle.bk_func.specs.Records.{BlockRecord, FuncRecord}
 use Rattle.bk_func.specs.Form.Text.{HasBlock}
 use Rattle.bk_func.specs.Form.States.{IsChain}
+use Rattle.bk_places.proofs.Elements.{contains_at}
+use Rattle.bk_places.proofs.Filling.{Filled}
 use Rattle.bk_form.specs.Chains.{AreBefores, AreChains, AreHomes, AreNamed, IsBefore, IsChainOf, IsStateAt}
 use Rattle.bk_form.specs.declared.chains.Chain.{Chain}
 use Rattle.bk_form.specs.declared.chains.Chain.TheVariants.{Empty}
 use Rattle.bk_form.specs.Naming.{GivesState, IsFirstOf, NamesIf}
 use Rattle.bk_form.specs.Places.{NodeRecord, node_at, nodes_of}
 use Rattle.bk_form.proofs.Copied.{AreValues}
-use Rattle.bk_form.proofs.Filling.{Filled}
-use Rattle.bk_form.proofs.Standing.{contains_at, node_stands}
+use Rattle.bk_form.proofs.Standing.{node_stands}
 use Rattle.bk_form.proofs.StateNames.{state_is}
 
 pub befores_all : (hs ns bs : List (Option ℕ)) (i : ℕ) → i ≡ length hs → Filled (λ (p : ℕ) (o : Option ℕ). (q : ℕ) → (o ≡ Some q) ↔ IsBefore hs ns p q) None bs i → AreBefores hs ns bs

@@ -1,4 +1,3 @@
-pub mod Adding
 pub mod Arranging
 pub mod Asked
 pub mod Bearers
@@ -8,7 +7,6 @@ pub mod Chained
 pub mod Copied
 pub mod Dominating
 pub mod Edges
-pub mod Extending
 pub mod Families
 pub mod Filling
 pub mod Finding
@@ -19,7 +17,6 @@ pub mod Grouping
 pub mod Homes
 pub mod Judging
 pub mod Lists
-pub mod Marking
 pub mod Members
 pub mod Named
 pub mod Needing
@@ -28,7 +25,6 @@ pub mod Ops
 pub mod Placing
 pub mod Reaching
 pub mod Remembered
-pub mod Reversing
 pub mod Rounding
 pub mod Running
 pub mod Sending

@@ -3,6 +3,7 @@ use Rattle.std.proofs.Common.{◌≡◌, ◌∙◌, sym, refl, ap, subst, ℕ, �
 use Rattle.std.specs.List.{Contains, cons_option, filter_map}
 use Rattle.std.proofs.lemmas.List.Elements.{Contains-append_right, Contains-append_cases}
 use Rattle.std.proofs.lemmas.Option.{none-some, same_Some}
+use Rattle.bk_places.proofs.Elements.{none_in}
 
 -- the first element, and those behind it
 pub first_in : {A : Type 0} (x : A) (xs : List A) → Contains (x ∷ xs) x
@@ -10,9 +11,6 @@ first_in x xs = (0, omega arith, refl)
 
 pub later_in : {A : Type 0} (x : A) (xs : List A) (y : A) → Contains xs y → Contains (x ∷ xs) y
 later_in x xs y m = Contains-append_right (x ∷ []) xs y m
-
-pub none_in : {A : Type 0} (y : A) → Contains [] y → ⊥
-none_in y (k, l, e) = absurd (omega arith)
 
 alone_in : {A : Type 0} (x y : A) → Contains (x ∷ []) y → x ≡ y
 alone_in x y (k, l, e) = let z : k ≡ 0 = omega arith in subst (λ (j : ℕ). get_or (x ∷ []) j y ≡ y) z e

@@ -8,9 +8,10 @@ use Rattle.bk_func.specs.Records.{ValueRecord, BlockRecord, FuncRecord, SigRecor
 use Rattle.bk_func.specs.Form.Text.{HasValue}
 use Rattle.bk_func.specs.Form.Parts.{IsValueNumber}
 use Rattle.bk_func.specs.Form.Signatures.{ResultOf}
+use Rattle.bk_places.proofs.Elements.{contains_at, at_contains}
 use Rattle.bk_form.specs.Numbers.{value_ids, sole}
 use Rattle.bk_form.specs.Places.{NodeRecord, node_at, nodes_of, value_with, callee_named}
-use Rattle.bk_form.proofs.Standing.{contains_at, at_contains, node_stands, node_for, node_of, node_alone, named_at}
+use Rattle.bk_form.proofs.Standing.{node_stands, node_for, node_of, node_alone, named_at}
 
 pub named_value : (f : FuncRecord) (n : ℕ) (b : BlockRecord) (v : ValueRecord) → IsValueNumber f n → HasValue f b v → v.id ≡ n → value_with f n ≡ Some v
 unfolding value_with

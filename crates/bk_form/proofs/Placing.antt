@@ -6,14 +6,14 @@ use Rattle.std.proofs.lemmas.Option.{none-some, same_Some, slice_get_within}
 use Rattle.bk_func.specs.Records.{FuncRecord}
 use Rattle.bk_func.specs.Form.Text.{IsPhi}
 use Rattle.bk_func.specs.Form.Parts.{IsValueNumber}
+use Rattle.bk_places.proofs.Adding.{first_members}
+use Rattle.bk_places.proofs.Elements.{none_in, at_contains}
+use Rattle.bk_places.proofs.Filling.{Filled}
 use Rattle.bk_form.specs.Arranged.{AreTakes, TakesTo}
 use Rattle.bk_form.specs.Numbers.{value_ids, sole}
 use Rattle.bk_form.specs.Places.{NodeRecord, nodes_of}
-use Rattle.bk_form.proofs.Adding.{first_members}
 use Rattle.bk_form.proofs.Copied.{AreValues, stands_at}
-use Rattle.bk_form.proofs.Filling.{Filled}
-use Rattle.bk_form.proofs.Members.{none_in}
-use Rattle.bk_form.proofs.Standing.{at_contains, node_of, node_alone}
+use Rattle.bk_form.proofs.Standing.{node_of, node_alone}
 
 -- the value with the number stands at the place and in the block
 abbrev pub IsPlaceIn : FuncRecord → ℕ → ℕ → ℕ → Type 0

@@ -16,21 +16,22 @@ use Rattle.bk_func.specs.Form.Text.{Defines, HasBlock, HasValue, IsFirstIn, IsPh
 use Rattle.bk_func.specs.Form.Walks.{IsReached}
 use Rattle.bk_func.specs.Form.Parts.{IsValueNumber}
 use Rattle.bk_func.specs.Form.States.{EndsItsBlock, EndsWithState, HasChain, HasMemoryPhi, IsChain, IsFirstState, IsLastState, IsLinked, first, more, IsState, IsStateOf, Names, StandsFor, Starts}
+use Rattle.bk_places.proofs.Elements.{lent, none_in, contains_at, at_contains, at_some}
+use Rattle.bk_places.proofs.Filling.{Filled}
+use Rattle.bk_places.specs.Named.{NamesBy}
 use Rattle.bk_form.specs.Carried.{IsPlaceOf}
 use Rattle.bk_form.specs.Chains.{AreChains, AreHomes, IsChainOf}
 use Rattle.bk_form.specs.declared.chains.Chain.{Chain}
 use Rattle.bk_form.specs.declared.chains.Chain.TheVariants.{Linked, Broken}
 use Rattle.bk_form.specs.Memories.{AreControls, At, EndsWith, IsControlled, Meets, NamesLast, NamesRight, NamesWithin, TakesBefore, TakesBehind, TakesLast}
-use Rattle.bk_form.specs.Naming.{NamesIf, NamesBy}
+use Rattle.bk_form.specs.Naming.{NamesIf}
 use Rattle.bk_form.specs.Numbers.{block_ids, value_ids, sole}
 use Rattle.bk_form.specs.Places.{NodeRecord, node_at, nodes_of, node_named}
 use Rattle.bk_form.specs.Roots.{AreRoots}
 use Rattle.bk_form.proofs.Bearers.{sole_is}
 use Rattle.bk_form.proofs.Copied.{AreValues, one_node, stands_at}
-use Rattle.bk_form.proofs.Filling.{Filled}
-use Rattle.bk_form.proofs.Lists.{lent}
-use Rattle.bk_form.proofs.Members.{first_in, none_in, first_or_later, last_in, same_end}
-use Rattle.bk_form.proofs.Standing.{contains_at, at_contains, at_some, node_in, node_stands, node_of, block_alone, one_value, one_place}
+use Rattle.bk_form.proofs.Members.{first_in, first_or_later, last_in, same_end}
+use Rattle.bk_form.proofs.Standing.{node_in, node_stands, node_of, block_alone, one_value, one_place}
 use Rattle.bk_form.proofs.StateNames.{phi_names, stands_there}
 use Rattle.bk_form.specs.Walks.{block_edges, IsRow}
 use Rattle.bk_form.proofs.Walked.{AreNamed, block_there, home_of, reached_from, reached_to}

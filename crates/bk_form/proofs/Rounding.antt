@@ -1,5 +1,5 @@
 -- Values that come before themselves, as paths.
-use Rattle.std.proofs.Common.{◌≡◌, ◌≢◌, ◌∙◌, sym, refl, ap, subst, ℕ, ◌+◌, ◌<◌, ◌≤◌, ◌↔◌, Bool, true, false, List, [], length, get_or, replicate, Option, None, Some, ⊎_elim, arith}
+use Rattle.std.proofs.Common.{◌≡◌, ◌∙◌, sym, refl, ap, subst, ℕ, ◌+◌, ◌<◌, ◌≤◌, ◌↔◌, Bool, true, false, List, [], length, get_or, replicate, Option, None, Some, ⊎_elim, arith}
 use Rattle.std.specs.Bool.{MatchBool}
 use Rattle.std.specs.List.{All, Contains, slice_get}
 use Rattle.std.proofs.lemmas.Bool.{cases_lt, false≢true}
@@ -9,25 +9,16 @@ use Rattle.std.proofs.lemmas.Option.{none-some, same_Some}
 use Rattle.bk_func.specs.Records.{ValueRecord, BlockRecord, FuncRecord}
 use Rattle.bk_func.specs.Form.Before.{ComesBefore, argument, state, checks, needed, unneeded, Precedes, right, onward}
 use Rattle.bk_func.specs.Form.Text.{HasValue}
+use Rattle.bk_places.proofs.Leading.{leads_on}
+use Rattle.bk_places.proofs.Elements.{none_in, at_contains}
+use Rattle.bk_places.proofs.Marking.{marked_or, none_closed, marked_still}
+use Rattle.bk_places.proofs.Reaching.{path_start}
+use Rattle.bk_places.specs.Search.{Leads, IsEdge, Path, here, onward as farther, IsMarked, Marks, IsClosed, Grows}
 use Rattle.bk_form.specs.Numbers.{value_ids, sole}
-use Rattle.bk_form.specs.Orders.{IsOrder, Leads, RisesTo, Settles}
+use Rattle.bk_form.specs.Orders.{IsOrder, RisesTo, Settles}
 use Rattle.bk_form.specs.Places.{node_at, nodes_of}
-use Rattle.bk_form.specs.Search.{IsEdge, Path, here, onward as farther, IsMarked, Marks, IsClosed, Grows}
 use Rattle.bk_form.proofs.Copied.{AreValues}
-use Rattle.bk_form.proofs.Marking.{marked_or, none_closed, marked_still}
-use Rattle.bk_form.proofs.Members.{none_in}
-use Rattle.bk_form.proofs.Reaching.{path_start, path_within}
-use Rattle.bk_form.proofs.Standing.{at_contains, node_in, node_of, node_alone}
-
--- paths one after the other
-path_on : (es : List (List ℕ)) (a s p q : ℕ) → Path es a s p → Path es a p q → Path es a s q
-path_on es a s p _ front (here within) = front
-path_on es a s p _ front (farther t q path apart edge within) = farther t q (path_on es a s p t front path) apart edge within
-
-pub leads_on : (es : List (List ℕ)) (p q r : ℕ) → Leads es p q → Leads es q r → Leads es p r
-leads_on es p q r (t, e, w, path) (x, d, v, more) =
-    let away : q ≢ length es = λ same. absurd (omega (arith, path_within es (length es) t q path)) in
-    (t, e, w, path_on es (length es) t x r (farther q x path away d v) more)
+use Rattle.bk_form.proofs.Standing.{node_in, node_of, node_alone}
 
 -- nothing leads back to a place with a rank
 path_settles : (es : List (List ℕ)) (rs : List ℕ) → Settles es rs → (a s p : ℕ) → Path es a s p → 0 < get_or rs p 0 → (0 < get_or rs s 0) × (get_or rs s 0 ≤ get_or rs p 0)

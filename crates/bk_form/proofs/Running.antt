@@ -2,9 +2,10 @@
 use Rattle.std.proofs.Common.{◌≡◌, ◌∙◌, sym, refl, ap, subst, ℕ, suc, ◌<◌, ◌≤◌, ◌↔◌, List, [], ◌∷◌, ◌++◌, length, get_or, Option, None, Some, ⊎_elim, arith}
 use Rattle.std.specs.List.{Contains}
 use Rattle.std.proofs.lemmas.Option.{none-some, same_Some}
+use Rattle.bk_places.proofs.Elements.{none_in}
+use Rattle.bk_places.specs.Search.{Path, here, onward, Reverses}
 use Rattle.bk_form.specs.Chains.{IsRun}
-use Rattle.bk_form.specs.Search.{Path, here, onward, Reverses}
-use Rattle.bk_form.proofs.Members.{first_in, later_in, none_in, first_or_later, last_in, same_end}
+use Rattle.bk_form.proofs.Members.{first_in, later_in, first_or_later, last_in, same_end}
 
 before_same : (bs : List (Option ℕ)) (x q : ℕ) (o : Option ℕ) → x ≡ q → get_or bs x None ≡ o → get_or bs q None ≡ o
 before_same bs x q o same e = subst (λ (k : ℕ). get_or bs k None ≡ o) same e

@@ -21,16 +21,17 @@ use Rattle.bk_func.specs.Form.States.{StandsFor, Names}
 use Rattle.bk_func.specs.Form.Shapes.{FitsWordOf, IsMemory}
 use Rattle.bk_form.specs.declared.sent.Question.{Question}
 use Rattle.bk_form.specs.declared.sent.Question.TheVariants.{Misfit}
+use Rattle.bk_places.proofs.Elements.{contains_at, at_contains, at_some}
+use Rattle.bk_places.proofs.Reaching.{path_within}
+use Rattle.bk_places.specs.Search.{IsEdge, Path, here, onward}
 use Rattle.bk_form.specs.Naming.{NamesIf}
 use Rattle.bk_form.specs.Numbers.{value_ids, sole}
 use Rattle.bk_form.specs.Places.{NodeRecord, AllNamed, node_at, nodes_of, value_with, first_named, root_with, mark_of, mark_at}
 use Rattle.bk_form.specs.Roots.{AreRoots}
-use Rattle.bk_form.specs.Search.{IsEdge, Path, here, onward}
 use Rattle.bk_form.specs.Sent.{Passes, FitsCalls, LeadsTo, StepsTo, AreSteps, IsFoundFrom, IsCallFor, IsReachedBy, AreAnswers, AnswersCalls}
 use Rattle.bk_form.proofs.Copied.{AreValues, place_for, stands_at, one_node}
 use Rattle.bk_form.proofs.Named.{argument_named}
-use Rattle.bk_form.proofs.Reaching.{path_within}
-use Rattle.bk_form.proofs.Standing.{contains_at, at_contains, at_some, node_stands, node_in, node_alone, one_value}
+use Rattle.bk_form.proofs.Standing.{node_stands, node_in, node_alone, one_value}
 use Rattle.bk_form.proofs.StateNames.{stands_there}
 
 -- what stands in a word is what its first argument names

@@ -9,7 +9,8 @@ use Rattle.bk_ops.specs.declared.types.Ty.{Ty}
 use Rattle.bk_func.specs.Form.Signatures.{Setting}
 use Rattle.bk_func.specs.Form.Parts.{IsBetween}
 use Rattle.bk_func.specs.Form.Shapes.{IsAlike, FitsPlaceOf}
-use Rattle.bk_form.proofs.Standing.{at_some, slice_get_left, slice_get_right}
+use Rattle.bk_places.proofs.Elements.{at_some}
+use Rattle.bk_form.proofs.Standing.{slice_get_left, slice_get_right}
 
 pub before_end : {A : Type 0} (xs ys : List A) (k : ℕ) → k < length xs → slice_get (xs ++ ys) k ≡ slice_get xs k
 before_end xs ys k l = let (x, e) = at_some xs k l in slice_get_left xs ys k x e ∙ sym e

@@ -4,11 +4,11 @@ use Rattle.std.specs.List.{Contains, slice_get}
 use Rattle.std.proofs.lemmas.Bool.{cases_lt}
 use Rattle.std.proofs.lemmas.List.{get_or_past, get_or-replicate, length-replicate}
 use Rattle.std.proofs.lemmas.Option.{none-some, same_Some}
+use Rattle.bk_places.proofs.Elements.{none_in}
+use Rattle.bk_places.proofs.Marking.{marked_or, none_closed, marked_still}
+use Rattle.bk_places.specs.Search.{PathFrom, IsMarked, Marks, IsClosed, Grows}
 use Rattle.bk_form.specs.Carried.{AreIncoming, source_of}
 use Rattle.bk_form.specs.declared.chains.Chain.{Chain}
-use Rattle.bk_form.specs.Search.{PathFrom, IsMarked, Marks, IsClosed, Grows}
-use Rattle.bk_form.proofs.Marking.{marked_or, none_closed, marked_still}
-use Rattle.bk_form.proofs.Members.{none_in}
 
 pub record Sourced (es os : List (List ℕ)) (a : ℕ) (cs : List Chain) (rs : List Bool) (i : ℕ) (ls : List (Option ℕ)) (xs : List ℕ) : Type 0 where
   pub size : length ls ≡ length es

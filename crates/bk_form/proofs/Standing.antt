@@ -3,10 +3,11 @@ use Rattle.std.proofs.Common.{◌≡◌, ◌∙◌, sym, refl, ap, subst, ℕ, z
 use Rattle.std.specs.List.{Contains, flat_map, slice_get}
 use Rattle.std.specs.Option.{option_map}
 use Rattle.std.proofs.lemmas.List.{length-map, map-append}
-use Rattle.std.proofs.lemmas.Option.{slice_get_read, slice_get_within, slice_get-map, get_or_from_slice_get, none-some, same_Some}
+use Rattle.std.proofs.lemmas.Option.{slice_get_within, slice_get-map, get_or_from_slice_get, none-some, same_Some}
 use Rattle.bk_func.specs.Records.{ValueRecord, BlockRecord, FuncRecord}
 use Rattle.bk_func.specs.Form.Text.{HasBlock, HasValue}
 use Rattle.bk_func.specs.Form.Parts.{IsBlockNumber, IsValueNumber}
+use Rattle.bk_places.proofs.Elements.{contains_at, at_contains, at_some}
 use Rattle.bk_form.specs.Numbers.{block_ids, value_ids, sole}
 use Rattle.bk_form.specs.Places.{NodeRecord, node_at, nodes_from, nodes_of, node_named}
 use Rattle.bk_form.proofs.Bearers.{sole_is, sole_from}
@@ -27,18 +28,6 @@ pub slice_get_parts : {A : Type 0} (xs ys : List A) (i : ℕ) (x : A) → slice_
 slice_get_parts [] ys i x e = inr (i, sym (zero-add i), e)
 slice_get_parts (z ∷ zs) ys zero x e = inl e
 slice_get_parts (z ∷ zs) ys (suc i) x e = ⊎_elim (λ h. inl h) (λ (j, s, f). inr (j, rw s (omega arith), f)) (slice_get_parts zs ys i x e)
-
--- an element is contained, and what is contained stands somewhere
-pub contains_at : {A : Type 0} (xs : List A) (i : ℕ) (x : A) → slice_get xs i ≡ Some x → Contains xs x
-contains_at xs i x e = (i, slice_get_within xs i x e, get_or_from_slice_get xs i x x e)
-
-pub at_contains : {A : Type 0} (xs : List A) (x : A) → Contains xs x → (i : ℕ) × (slice_get xs i ≡ Some x)
-at_contains xs x (i, l, e) = (i, slice_get_read xs (length xs) i x refl l (sym e))
-
-pub at_some : {A : Type 0} (xs : List A) (i : ℕ) → i < length xs → (x : A) × (slice_get xs i ≡ Some x)
-at_some [] i l = absurd (omega arith)
-at_some (x ∷ xs) zero l = (x, refl)
-at_some (x ∷ xs) (suc i) l = at_some xs i (omega arith)
 
 slice_get_mapped : {A B : Type 0} (h : A → B) (xs : List A) (i : ℕ) (y : B) → slice_get (map h xs) i ≡ Some y → (x : A) × (slice_get xs i ≡ Some x) × (h x ≡ y)
 slice_get_mapped h [] i y e = absurd (none-some y e)

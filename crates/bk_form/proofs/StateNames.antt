@@ -1,116 +1,26 @@
 -- What values name of memory.
-use Rattle.std.proofs.Common.{◌≡◌, ◌∙◌, sym, refl, ap, subst, ℕ, ◌+◌, ◌<◌, ◌↔◌, true, false, cond, List, length, get_or, Option, None, Some, inl, inr, ⊎_elim, arith}
+use Rattle.std.proofs.Common.{◌≡◌, ◌∙◌, sym, refl, ap, subst, ℕ, ◌+◌, ◌<◌, ◌↔◌, List, get_or, Option, None, Some, ⊎_elim}
 use Rattle.std.specs.List.{Contains, slice_get}
 use Rattle.std.specs.Option.{MatchOption}
-use Rattle.std.proofs.lemmas.Bool.{cases_order, false≢true}
-use Rattle.std.proofs.lemmas.Option.{slice_get_within, none-some, same_Some}
-use Rattle.bk_ops.specs.Families.{is_call_result}
-use Rattle.bk_ops.specs.Table.{info_of, is_op, row, entry, unknown}
-use Rattle.bk_ops.specs.declared.table.Op.{Op}
-use Rattle.bk_ops.specs.declared.family.Family.{Family}
-use Rattle.bk_ops.specs.declared.family.Family.TheVariants.{Copy, InitMem, Phi, ResReg, ResWord, SelectN}
+use Rattle.std.proofs.lemmas.Bool.{cases_order}
+use Rattle.std.proofs.lemmas.Option.{none-some, same_Some}
+use Rattle.bk_ops.specs.Table.{entry}
+use Rattle.bk_ops.specs.declared.family.Family.TheVariants.{InitMem}
 use Rattle.bk_func.specs.Records.{ValueRecord, BlockRecord, FuncRecord}
 use Rattle.bk_func.specs.Form.Text.{HasValue, IsFirstIn, IsPhi}
-use Rattle.bk_func.specs.Form.States.{CopiesMemory, IsFirstInit, IsState, StandsFor, itself, copied, NamesAt, Names}
+use Rattle.bk_func.specs.Form.States.{IsFirstInit, IsState, StandsFor, itself, copied, NamesAt, Names}
+use Rattle.bk_places.proofs.Elements.{contains_at, at_contains, at_some}
+use Rattle.bk_places.specs.Named.{NamesBy}
 use Rattle.bk_form.specs.Roots.{AreRoots}
-use Rattle.bk_form.specs.Naming.{GivesState, IsFirstOf, NamesFirst, NamesBy, NamesPlace, NamesIf}
+use Rattle.bk_form.specs.Naming.{GivesState, IsFirstOf, NamesPlace, NamesIf}
 use Rattle.bk_form.specs.Numbers.{value_ids, sole}
 use Rattle.bk_form.specs.Places.{NodeRecord, node_at, nodes_of}
+use Rattle.bk_places.proofs.NamesAt.{phi_names as phi_names_at}
 use Rattle.bk_form.proofs.Copied.{AreValues}
-use Rattle.bk_form.proofs.Standing.{contains_at, at_contains, at_some, node_for, node_of, one_value}
+use Rattle.bk_form.proofs.Standing.{node_for, node_of, one_value}
 
--- the ops that name a state by their first argument take no memory last
-no_memory : (o : Op) (g : Family) → o.family ≡ g → ((a b : ℕ) → (row g a b).info.memory ≡ false) → (info_of o).memory ≡ false
-unfolding info_of
-no_memory o g e none =
-    elim (is_op o.family o.a o.b) as (λ t. (cond t (row o.family o.a o.b).info unknown).memory ≡ false) [
-      | true ↦ subst (λ (h : Family). (row h o.a o.b).info.memory ≡ false) (sym e) (none o.a o.b)
-      | false ↦ refl
-    ]
-
-copy_none : (a b : ℕ) → (row Copy a b).info.memory ≡ false
-unfolding row entry
-copy_none a b = refl
-
-result_none : (g : Family) → is_call_result g ≡ true → (a b : ℕ) → (row g a b).info.memory ≡ false
-unfolding row entry
-result_none SelectN e a b = refl
-result_none ResWord e a b = refl
-result_none ResReg e a b = refl
-result_none _ e a b = absurd (false≢true e)
-
-phi_none : (a b : ℕ) → (row Phi a b).info.memory ≡ false
-unfolding row entry
-phi_none a b = refl
-
-first_none : (v : ValueRecord) → NamesFirst v → (info_of v.op).memory ≡ false
-first_none v h = ⊎_elim
-    (λ (copies : CopiesMemory v). no_memory v.op Copy copies.0 copy_none)
-    (λ (result : is_call_result v.op.family ≡ true). no_memory v.op v.op.family refl (result_none v.op.family result))
-    h
-
--- where the state is named
-at_first : (v : ValueRecord) → NamesFirst v → (k : ℕ) → NamesAt v k → k ≡ 0
-at_first v h k at = ⊎_elim
-    (λ (copies : CopiesMemory v × (k ≡ 0)). copies.1)
-    (λ rest. ⊎_elim (λ (one : (is_call_result v.op.family ≡ true) × (k ≡ 0)). one.1)
-    (λ (last : ((info_of v.op).memory ≡ true) × (k + 1 ≡ length v.args)). absurd (false≢true (sym (first_none v h) ∙ last.0)))
-    rest)
-    at
-
-first_at : (v : ValueRecord) → NamesFirst v → NamesAt v 0
-first_at v h = ⊎_elim
-    (λ copies. inl (copies, refl))
-    (λ e. inr (inl (e, refl)))
-    h
-
-at_last : (v : ValueRecord) → ¬ NamesFirst v → (k : ℕ) → NamesAt v k → ((info_of v.op).memory ≡ true) × (k + 1 ≡ length v.args)
-at_last v other k at = ⊎_elim
-    (λ (copies : CopiesMemory v × (k ≡ 0)). absurd (other (inl copies.0)))
-    (λ rest. ⊎_elim (λ (one : (is_call_result v.op.family ≡ true) × (k ≡ 0)). absurd (other (inr one.0))) (λ last. last) rest)
-    at
-
--- a phi names nothing
 pub phi_names : (f : FuncRecord) (v : ValueRecord) → IsPhi v → (s : ℕ) → ¬ Names f v s
-phi_names f v phi s (k, n, at, g, stands) = ⊎_elim
-    (λ (copies : CopiesMemory v × (k ≡ 0)). other Copy (sym phi ∙ copies.0.0) (λ e. cc))
-    (λ more. ⊎_elim (λ (one : (is_call_result v.op.family ≡ true) × (k ≡ 0)). false≢true (sym (ap is_call_result phi) ∙ one.0))
-    (λ (last : ((info_of v.op).memory ≡ true) × (k + 1 ≡ length v.args)). false≢true (sym (no_memory v.op Phi phi phi_none) ∙ last.0))
-    more)
-    at
-  where
-    other : (g : Family) → Phi ≡ g → (Phi ≡ g → ⊥) → ⊥
-    other g e apart = apart e
-
--- what the argument by which a state is named is
-pub by_first : (v : ValueRecord) (ns : List ℕ) → ns ≡ v.args → NamesFirst v → (o : Option ℕ) → o ≡ slice_get ns 0
-    → MatchOption o ((n : ℕ) → ¬ NamesBy v n) (λ n. (m : ℕ) → NamesBy v m ↔ (m ≡ n))
-by_first v ns same h None e = λ n (k, at, g).
-    none-some n (e ∙ (ap (λ us. slice_get us 0) same ∙ (ap (slice_get v.args) (sym (at_first v h k at)) ∙ g)))
-by_first v ns same h (Some x) e = λ m. (
-  λ (k, at, g). sym (same_Some x m (e ∙ (ap (λ us. slice_get us 0) same ∙ (ap (slice_get v.args) (sym (at_first v h k at)) ∙ g)))),
-  λ is. (0, first_at v h, sym (e ∙ ap (λ us. slice_get us 0) same) ∙ ap Some (sym is)),
-)
-
-pub by_last : (v : ValueRecord) (ns : List ℕ) → ns ≡ v.args → ¬ NamesFirst v → (info_of v.op).memory ≡ true → (l : ℕ) (o : Option ℕ) → o ≡ slice_get ns l → l + 1 ≡ length ns
-    → MatchOption o ((n : ℕ) → ¬ NamesBy v n) (λ n. (m : ℕ) → NamesBy v m ↔ (m ≡ n))
-by_last v ns same other memory l None e long = λ n (k, at, g).
-    let end = (at_last v other k at).1 in
-    let is : k ≡ l = omega (arith, end, long, ap length same) in
-    none-some n (e ∙ (ap (λ us. slice_get us l) same ∙ (ap (slice_get v.args) (sym is) ∙ g)))
-by_last v ns same other memory l (Some x) e long = λ m. (
-  λ (k, at, g).
-      let end = (at_last v other k at).1 in
-      let is : k ≡ l = omega (arith, end, long, ap length same) in
-      sym (same_Some x m (e ∙ (ap (λ us. slice_get us l) same ∙ (ap (slice_get v.args) (sym is) ∙ g)))),
-  λ is. (l, inr (inr (memory, long ∙ ap length same)), sym (e ∙ ap (λ us. slice_get us l) same) ∙ ap Some (sym is)),
-)
-
-pub by_none : (v : ValueRecord) → ¬ NamesFirst v → ((info_of v.op).memory ≡ true → ⊥) → (n : ℕ) → ¬ NamesBy v n
-by_none v other never n (k, at, g) = never (at_last v other k at).0
-
-pub by_nothing : (v : ValueRecord) (ns : List ℕ) → ns ≡ v.args → length ns ≡ 0 → (n : ℕ) → ¬ NamesBy v n
-by_nothing v ns same empty n (k, at, g) = absurd (omega (arith, slice_get_within v.args k n g, ap length same))
+phi_names f v phi s (k, n, at, g, stands) = phi_names_at v phi k at
 
 -- what stands for something stands for a value of the function
 pub stands_there : (f : FuncRecord) (n s : ℕ) → StandsFor f n s → (r : ℕ) × (o : NodeRecord) × (slice_get (nodes_of f) r ≡ Some o) × (o.value.id ≡ s)
@@ -171,15 +81,6 @@ names_somewhere f named b v has n by none =
     let (k, at, g) = (by n).1 refl in
     let (q, m, s, here, id) = node_of f n (named.argument b v k n has g) in
     none-some q (sym none ∙ s)
-
--- what an answer says
-pub none_says : {A : Type 0} (P : Type 0) (Q : A → Type 0) (o : Option A) → o ≡ None → MatchOption o P Q → P
-none_says P Q None e h = h
-none_says P Q (Some x) e h = absurd (none-some x (sym e))
-
-pub some_says : {A : Type 0} (P : Type 0) (Q : A → Type 0) (o : Option A) (x : A) → o ≡ Some x → MatchOption o P Q → Q x
-some_says P Q None x e h = absurd (none-some x e)
-some_says {A} P Q (Some y) x e h = subst Q (same_Some y x e) h
 
 -- the first of a list is one
 first_same : {A : Type 0} (P : A → Type 0) (xs : List A) (x y : A) → IsFirstIn P xs x → IsFirstIn P xs y → x ≡ y

@@ -6,8 +6,8 @@ use Rattle.bk_func.specs.Form.Walks.{IsReached}
 use Rattle.bk_func.specs.Form.States.{IsFirstState}
 use Rattle.bk_form.specs.declared.chains.Chain.{Chain}
 use Rattle.bk_form.specs.declared.chains.Chain.TheVariants.{Empty, Linked}
+use Rattle.bk_places.specs.Search.{IsEdge, IsMarked, PathFrom}
 use Rattle.bk_form.specs.Places.{NodeRecord, nodes_of}
-use Rattle.bk_form.specs.Search.{IsEdge, IsMarked, PathFrom}
 
 -- the place is that of the one value with a number of which the fact holds, if there is such a number
 abbrev pub IsPlaceOf : FuncRecord → (ℕ → Type 0) → Option ℕ → Type 0

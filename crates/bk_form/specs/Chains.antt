@@ -7,9 +7,9 @@ use Rattle.bk_func.specs.Form.States.{IsState, IsStateOf, IsChain}
 use Rattle.bk_form.specs.declared.chains.Chain.{Chain}
 use Rattle.bk_form.specs.declared.chains.Links.{Links}
 use Rattle.bk_form.specs.declared.chains.Chain.TheVariants.{Empty, Linked, Broken}
+use Rattle.bk_places.specs.Search.{IsMarked, Path, Reverses}
 use Rattle.bk_form.specs.Naming.{NamesIf}
 use Rattle.bk_form.specs.Places.{NodeRecord, node_at, nodes_of}
-use Rattle.bk_form.specs.Search.{IsMarked, Path, Reverses}
 
 -- a state of the block at the place i stands at the place p
 abbrev pub IsStateAt : FuncRecord → ℕ → ℕ → Type 0

@@ -25,12 +25,6 @@ pub record AreGroups (ks : List (Option (ℕ × ℕ))) (gs : List (Option ℕ)) 
   pub same : (p q g : ℕ) → slice_index_or gs p None ≡ Some g → slice_index_or gs q None ≡ Some g → slice_index_or ks p None ≡ slice_index_or ks q None
   pub one : (p q : ℕ) (k : ℕ × ℕ) → slice_index_or ks p None ≡ Some k → slice_index_or ks q None ≡ Some k → slice_index_or gs p None ≡ slice_index_or gs q None
 
--- for each group those of its places below i that are chosen, in order
-pub record AreMembers (gs : List (Option ℕ)) (cs : List Bool) (i : ℕ) (es : List (List ℕ)) : Type 0 where
-  pub size : length es ≡ length gs
-  pub each : (g p : ℕ) → Contains (slice_index_or es g []) p ↔ (p < i × (slice_index_or gs p None ≡ Some g) × (slice_index_or cs p false ≡ true))
-  pub rising : (g j k : ℕ) → j < k → k < length (slice_index_or es g []) → slice_index (slice_index_or es g []) j < slice_index (slice_index_or es g []) k
-
 -- the key of a value: its block and the state that it names
 abbrev pub key_of : ℕ → Option ℕ → Option (ℕ × ℕ)
 key_of home None = None

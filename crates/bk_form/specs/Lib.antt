@@ -14,7 +14,6 @@ pub mod Orders
 pub mod Places
 pub mod Roots
 pub mod Rows
-pub mod Search
 pub mod Sent
 pub mod Slots
 pub mod Uses

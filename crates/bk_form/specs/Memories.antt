@@ -10,13 +10,13 @@ use Rattle.bk_func.specs.Form.Text.{HasBlock, HasValue, IsPhi}
 use Rattle.bk_func.specs.Form.Walks.{IsReached}
 use Rattle.bk_func.specs.Form.States.{StandsFor, NamesAt, Names, IsLastState, IsStateIn}
 use Rattle.bk_form.specs.declared.memory.Memories.{Memories}
+use Rattle.bk_places.specs.Search.{Reverses}
 use Rattle.bk_form.specs.Carried.{AreFirstStates}
 use Rattle.bk_form.specs.Chains.{AreChains, AreHomes}
 use Rattle.bk_form.specs.Naming.{IsFirstOf}
 use Rattle.bk_form.specs.Numbers.{value_ids, sole}
 use Rattle.bk_form.specs.Places.{nodes_of}
 use Rattle.bk_form.specs.Roots.{AreRoots}
-use Rattle.bk_form.specs.Search.{Reverses}
 use Rattle.bk_form.specs.Walks.{IsFlow, IsRow}
 
 -- for each block the place of its control

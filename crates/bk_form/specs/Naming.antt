@@ -1,20 +1,11 @@
 -- What values name of memory, by numbers and by places.
-use Rattle.std.specs.Prelude.{◌≡◌, ◌↔◌, ℕ, true, Option, Some, MatchOption, ◌⊎◌}
+use Rattle.std.specs.Prelude.{◌≡◌, ◌↔◌, ℕ, Option, Some, MatchOption, ◌⊎◌}
 use Rattle.std.specs.List.{slice_get}
-use Rattle.bk_ops.specs.Families.{is_call_result}
 use Rattle.bk_ops.specs.declared.family.Family.TheVariants.{Copy, InitMem, MakeResult, StaticLECall}
 use Rattle.bk_ops.specs.declared.types.Ty.TheVariants.{Mem}
 use Rattle.bk_func.specs.Records.{ValueRecord, BlockRecord, FuncRecord}
-use Rattle.bk_func.specs.Form.States.{CopiesMemory, NamesAt, Names, IsFirstInit}
+use Rattle.bk_func.specs.Form.States.{Names, IsFirstInit}
 use Rattle.bk_form.specs.Places.{NodeRecord, nodes_of}
-
--- the value names a state by its first argument
-abbrev pub NamesFirst : ValueRecord → Type 0
-NamesFirst v = CopiesMemory v ⊎ (is_call_result v.op.family ≡ true)
-
--- the number stands where the value names a state
-abbrev pub NamesBy : ValueRecord → ℕ → Type 0
-NamesBy v n = (k : ℕ) × NamesAt v k × (slice_get v.args k ≡ Some n)
 
 -- the place is that of the state that the value names
 abbrev pub NamesPlace : FuncRecord → ValueRecord → ℕ → Type 0

@@ -3,12 +3,9 @@ use Rattle.std.specs.Prelude.{◌≡◌, ℕ, ◌<◌, ◌≤◌, List, length, 
 use Rattle.std.specs.List.{slice_get}
 use Rattle.bk_func.specs.Records.{ValueRecord, BlockRecord, FuncRecord}
 use Rattle.bk_func.specs.Form.Before.{ComesBefore, Precedes}
+use Rattle.bk_places.specs.Search.{Leads}
+use Rattle.bk_places.specs.Search.{IsEdge}
 use Rattle.bk_form.specs.Places.{NodeRecord, node_at, nodes_of}
-use Rattle.bk_form.specs.Search.{IsEdge, Path}
-
--- edges lead from the first place to the second, one at least
-abbrev pub Leads : List (List ℕ) → ℕ → ℕ → Type 0
-Leads es p q = (t : ℕ) × IsEdge es p t × t < length es × Path es (length es) t q
 
 -- edges lead from the places of values to those of the values that they come before, and to no others; past the
 -- places of values there may be others, at which edges meet

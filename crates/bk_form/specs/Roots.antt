@@ -3,9 +3,9 @@ use Rattle.std.specs.Prelude.{◌≡◌, ◌↔◌, ℕ, ◌<◌, List, length, 
 use Rattle.std.specs.List.{slice_get}
 use Rattle.bk_func.specs.Records.{ValueRecord, FuncRecord}
 use Rattle.bk_func.specs.Form.States.{CopiesMemory, StandsFor}
+use Rattle.bk_places.specs.Search.{IsEdge}
 use Rattle.bk_form.specs.Numbers.{value_ids, sole}
 use Rattle.bk_form.specs.Places.{NodeRecord, nodes_of}
-use Rattle.bk_form.specs.Search.{IsEdge}
 
 -- the value copies memory, which stands at the place
 abbrev pub Copies : FuncRecord → ValueRecord → ℕ → Type 0

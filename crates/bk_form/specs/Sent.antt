@@ -1,5 +1,5 @@
 -- The words that calls take as arguments, by places.
-use Rattle.std.specs.Prelude.{◌≡◌, ◌↔◌, ℕ, ◌<◌, Bool, true, false, List, [], length, replicate, Option, Some, None, slice_index_or}
+use Rattle.std.specs.Prelude.{◌≡◌, ◌↔◌, ℕ, ◌<◌, Bool, true, false, List, [], length, Option, Some, slice_index_or}
 use Rattle.std.specs.List.{Contains, slice_get}
 use Rattle.bk_ops.specs.Families.{is_word_call}
 use Rattle.bk_ops.specs.declared.family.Family.TheVariants.{OutWord}
@@ -11,9 +11,8 @@ use Rattle.bk_func.specs.Form.Parts.{IsArgumentWord}
 use Rattle.bk_func.specs.Form.Shapes.{FitsWordOf}
 use Rattle.bk_form.specs.declared.sent.Question.{Question}
 use Rattle.bk_form.specs.declared.sent.Question.TheVariants.{Misfit, Counted}
+use Rattle.bk_places.specs.Search.{Path}
 use Rattle.bk_form.specs.Places.{NodeRecord, nodes_of, first_named}
-use Rattle.bk_form.specs.Search.{Path, Marks}
-use Rattle.bk_form.specs.declared.search.Search.{Search}
 
 -- what is asked of a word and of the signature of a call that takes it: whether what stands in the word does not fit
 -- the signature's word with this number, and whether its arguments have such a word
@@ -61,8 +60,3 @@ IsReachedBy s f es i p g = (k : ℕ) × k < i × IsCallFor s f es k p g
 pub record AnswersCalls (s : Setting) (f : FuncRecord) (q : Question) (bs : List Bool) : Type 0 where
   pub each : (p : ℕ) (m : NodeRecord) → slice_get (nodes_of f) p ≡ Some m → m.value.op.family ≡ OutWord
       → (slice_index_or bs p false ≡ true) ↔ ((g : SigRecord) × ArgumentOf s.pkg f m.value g × Passes s f q g m.value)
-
--- no place is reached
-pub record IsClear (n : ℕ) (w : Search) : Type 0 where
-  pub labels : w.labels.items ≡ replicate n None
-  pub marks : Marks w.labels.items w.reached.items

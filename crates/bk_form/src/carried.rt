@@ -8,7 +8,7 @@ ghost use Rattle.bk_form.specs.Walks.{IsFlow, IsRow};
 use crate::chains::Chain;
 use crate::flow::Flow;
 use crate::reach::Row;
-use crate::search::{Edges, Search, entry};
+use bk_places::{Edges, Search, entry};
 use std::alloc::{AllocError, Global};
 
 /// For each block that is reached the state on all walks to it.

@@ -6,8 +6,8 @@ ghost use Rattle.bk_form.specs.Chains.{AreBefores, AreChains, AreFirsts, AreHome
 ghost use Rattle.bk_form.specs.Walks.{IsFlow};
 
 use crate::flow::Flow;
-use crate::search::{Edges, Search, entry, reversed};
 use bk_func::Block;
+use bk_places::{Edges, Search, entry, reversed};
 use std::alloc::{AllocError, Global};
 
 /// The states of a block: none, one chain, or neither.

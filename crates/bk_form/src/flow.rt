@@ -12,8 +12,8 @@ ghost use Rattle.bk_form.specs.Walks.{IsFlow, block_edges};
 use crate::names::Scope;
 use crate::numbers::Numbers;
 use crate::places::{Node, nodes};
-use crate::search::Edges;
 use bk_func::{Block, Func};
+use bk_places::Edges;
 use std::alloc::{AllocError, Global};
 
 /// A function whose numbers name one thing each, by places: its values, and the places behind each block.

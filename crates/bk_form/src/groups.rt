@@ -2,14 +2,15 @@
 ghost use Rattle.std.specs.Prelude.{◌≡◌, ◌<◌, ℕ, IfOk, OnOk, None, Some, false, if◌then◌else◌, length, slice_index_or};
 ghost use Rattle.std.specs.List.{slice_get};
 ghost use Rattle.std.specs.BTreeMap.{get};
+ghost use Rattle.bk_places.specs.Order.{AreMembers};
 ghost use Rattle.bk_form.specs.Edges.{edge_cmp};
 ghost use Rattle.bk_form.specs.Chains.{AreNamed};
-ghost use Rattle.bk_form.specs.Groups.{AreGroups, AreGroupsOf, AreMembers, group_in, grouped, key_of};
+ghost use Rattle.bk_form.specs.Groups.{AreGroups, AreGroupsOf, group_in, grouped, key_of};
 ghost use Rattle.bk_form.specs.Places.{NodeRecord, nodes_of};
 ghost use Rattle.bk_form.specs.Walks.{IsFlow};
 
 use crate::flow::Flow;
-use crate::search::{Edges, entry};
+use bk_places::entry;
 use std::alloc::{AllocError, Global};
 use std::collections::BTreeMap;
 
@@ -79,38 +80,4 @@ fn key_of(home: usize, state: Option<usize>) -> Option<Key>
         Some(state) => Some((home, state)),
         None => None,
     }
-}
-
-/// For each group its places that are chosen, in order.
-pub(crate) fn members(
-    alloc: Global,
-    groups: &[Option<usize>],
-    chosen: &[bool],
-) -> Result<Edges, AllocError>
-    requires { (p g : ℕ) → slice_index_or groups.now p None ≡ Some g → g < length groups.now }
-    ensures { IfOk result (AreMembers groups.now chosen.now (length groups.now)) }
-{
-    let mut members = Edges::new(alloc, groups.len())?;
-    for place in 0..groups.len() {
-        let group = chosen_group(groups, chosen, place);
-        members.add_from(group, place)?;
-    }
-    Ok(members)
-}
-
-/// The group of the place, if it is chosen.
-fn chosen_group(groups: &[Option<usize>], chosen: &[bool], place: usize) -> Option<usize>
-    ensures { result ≡ (if slice_index_or chosen.now place false then slice_index_or groups.now place None else None) }
-{
-    if is_chosen(chosen, place) {
-        entry(groups, place)
-    } else {
-        None
-    }
-}
-
-fn is_chosen(chosen: &[bool], place: usize) -> bool
-    ensures { result ≡ slice_index_or chosen.now place false }
-{
-    chosen.get(place).copied().unwrap_or(false)
 }

@@ -28,7 +28,6 @@ mod places;
 mod reach;
 mod roots;
 mod rounds;
-mod search;
 mod sent;
 mod shape;
 mod types;

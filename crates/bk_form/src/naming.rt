@@ -4,17 +4,17 @@ ghost use Rattle.std.specs.List.{Contains};
 ghost use Rattle.bk_ops.specs.declared.family.Family.TheVariants.{InitMem};
 ghost use Rattle.bk_func.specs.Records.{BlockRecord, ValueRecord};
 ghost use Rattle.bk_func.specs.Form.Text.{HasValue, IsFirstIn};
-ghost use Rattle.bk_func.specs.Form.States.{CopiesMemory};
-ghost use Rattle.bk_ops.specs.Table.{info_of};
+ghost use Rattle.bk_places.specs.Named.{NamesBy, NamesFirst};
 ghost use Rattle.bk_form.specs.Chains.{AreHomes, AreNamed};
-ghost use Rattle.bk_form.specs.Naming.{GivesMemory, GivesState, IsFirstOf, NamesBy, NamesFirst, NamesIf};
+ghost use Rattle.bk_form.specs.Naming.{GivesMemory, GivesState, IsFirstOf, NamesIf};
 ghost use Rattle.bk_form.specs.Roots.{AreRoots};
 ghost use Rattle.bk_form.specs.Walks.{IsFlow};
 
 use crate::flow::Flow;
 use crate::places::Node;
 use bk_func::{Block, Func, Value};
-use bk_ops::{Family, Ty, is_call_result, op_info};
+use bk_ops::{Family, Ty};
+use bk_places::memory_argument;
 use std::alloc::{AllocError, Global};
 
 /// The place of the state that a value of the function names.
@@ -76,50 +76,6 @@ fn state_home(node: &Node, initial: Option<u32>) -> Option<usize>
     } else {
         None
     }
-}
-
-/// The number of the argument by which the value names a state.
-pub(crate) fn memory_argument(value: &Value) -> Option<u32>
-    ensures { MatchOption result ((n : ℕ) → ¬ NamesBy value.now n) (λ n. (m : ℕ) → NamesBy value.now m ↔ (m ≡ n)) }
-{
-    let args = value.args.as_slice();
-    let count = args.len();
-    if names_first(value) {
-        let first = args.get(0).copied();
-        return first;
-    }
-    if !takes_memory(value) {
-        return None;
-    }
-    if count == 0 {
-        return None;
-    }
-    let last = args.get(count - 1).copied();
-    last
-}
-
-/// Whether the value names a state by its first argument: a copy of memory, or a result of a call.
-fn names_first(value: &Value) -> bool
-    ensures { IsTrue result ↔ NamesFirst value.now }
-{
-    copies_memory(value) || is_call_result(value.op.family)
-}
-
-/// Whether the value copies memory.
-fn copies_memory(value: &Value) -> bool
-    ensures { IsTrue result ↔ CopiesMemory value.now }
-{
-    match value.op.family {
-        Family::Copy => value.ty == Ty::Mem,
-        _ => false,
-    }
-}
-
-/// Whether the op takes memory last.
-fn takes_memory(value: &Value) -> bool
-    ensures { IsTrue result ↔ ((info_of value.now.op).memory ≡ true) }
-{
-    op_info(value.op).memory
 }
 
 /// Whether the value of the function gives a state of memory: a call, or a value of memory that is neither a

@@ -4,43 +4,24 @@ ghost use Rattle.std.specs.List.{Contains, slice_get};
 ghost use Rattle.bk_func.specs.Form.Before.{Precedes, IsLoad, IsNilCheck, IsResult};
 ghost use Rattle.bk_func.specs.Form.Parts.{IsValueNumber};
 ghost use Rattle.bk_func.specs.Form.Text.{IsPhi};
-ghost use Rattle.bk_form.specs.Arranged.{Adds, AreEnds, AreLists, AreTakes, Follows, HasRole, IsAsked, IsLastBefore, IsNextAt, end_of, IsRightBefore, IsWithin, PlaysAt, TakesTo};
+ghost use Rattle.bk_places.specs.Order.{Adds, AreEnds, Follows, HasRole, IsAsked, IsLastBefore, end_of, IsRightBefore, IsWithin};
+ghost use Rattle.bk_places.specs.Search.{IsEdge, Marks, IsClear};
+ghost use Rattle.bk_form.specs.Arranged.{AreLists, AreTakes, IsNextAt, PlaysAt, TakesTo};
 ghost use Rattle.bk_form.specs.Chains.{AreHomes, AreNamed};
 ghost use Rattle.bk_form.specs.Finds.{Finds};
 ghost use Rattle.bk_form.specs.Groups.{AreGroupsOf, AreListed};
 ghost use Rattle.bk_form.specs.Places.{NodeRecord, nodes_of};
-ghost use Rattle.bk_form.specs.Search.{IsEdge, Marks};
-ghost use Rattle.bk_form.specs.Sent.{IsClear};
 ghost use Rattle.bk_form.specs.Walks.{IsFlow};
 
 use crate::Place;
 use crate::flow::{Flow, is_home};
-use crate::groups::{groups_of, members};
+use crate::groups::groups_of;
 use crate::places::Node;
 use crate::rounds::first_round;
-use crate::search::{Edges, Search, entry};
 use bk_func::Value;
-use bk_ops::{ArmOp, Family, RvOp, Ty, is_word_result};
+use bk_ops::Family;
+use bk_places::{Edges, Lists, Role, has_role, members, order_edges};
 use std::alloc::{AllocError, Global};
-
-/// What a value does with the state that it names.
-#[derive(Clone, Copy)]
-pub(crate) enum Role {
-    Check,
-    Load,
-    /// It comes before the memory values that follow the state: a check, a load or a result.
-    User,
-}
-
-/// For each group of values of one block that name one state its members, in order.
-#[derive(Drop)]
-pub(crate) struct Lists {
-    checks: Edges,
-    loads: Edges,
-    users: Edges,
-    /// The memory values that follow the state.
-    nexts: Edges,
-}
 
 /// The first value that has to come before itself, given for each state the place of its block, and for each value
 /// that of the state that it names.
@@ -58,7 +39,7 @@ pub(crate) fn first_fault(
     let takes = takes(alloc, flow)?;
     let groups = groups_of(alloc, flow, names)?;
     let lists = list_members(alloc, flow, homes, &groups)?;
-    let edges = order_of(alloc, &takes, &lists)?;
+    let edges = order_edges(alloc, &takes, &lists, takes.len())?;
     first_round(alloc, flow, &edges)
 }
 
@@ -175,7 +156,7 @@ fn players(
         let plays = has_role(node.value, role);
         picked.push(plays)?;
     }
-    members(alloc, groups, &picked)
+    members(alloc, groups, &picked, groups.len())
 }
 
 /// The states of each group.
@@ -195,195 +176,5 @@ fn nexts(
         let is_state = home.is_some();
         picked.push(is_state)?;
     }
-    members(alloc, groups, &picked)
-}
-
-fn has_role(value: &Value, role: Role) -> bool
-    ensures { IsTrue result ↔ HasRole role value.now }
-{
-    match role {
-        Role::Check => is_check(value),
-        Role::Load => is_load(value),
-        Role::User => is_load(value) || is_check(value) || is_result(value),
-    }
-}
-
-fn is_check(value: &Value) -> bool
-    ensures { IsTrue result ↔ IsNilCheck value.now }
-{
-    match value.op.family {
-        Family::NilCheck | Family::Arm(ArmOp::Nil) | Family::Rv(RvOp::Nil) => true,
-        _ => false,
-    }
-}
-
-fn is_load(value: &Value) -> bool
-    ensures { IsTrue result ↔ IsLoad value.now }
-{
-    match value.op.family {
-        Family::Load | Family::Arm(ArmOp::Load) | Family::Rv(RvOp::Load) => true,
-        _ => false,
-    }
-}
-
-/// Whether the value is a result of a call that is not memory.
-fn is_result(value: &Value) -> bool
-    ensures { IsTrue result ↔ IsResult value.now }
-{
-    match value.op.family {
-        Family::SelectN => value.ty != Ty::Mem,
-        _ => is_word_result(value.op.family),
-    }
-}
-
-/// Edges from values to those that come right after them.
-fn order_of(alloc: Global, takes: &Edges, lists: &Lists) -> Result<Edges, AllocError>
-    requires takes { IsWithin (length takes.now) takes.now }
-    requires checks { IsWithin (length takes.now) lists.now.checks }
-    requires users { IsWithin (length takes.now) lists.now.users }
-    ensures { IfOk result (Adds (replicate (length takes.now) []) (IsRightBefore takes.now lists.now (length takes.now))) }
-{
-    let count = takes.len();
-    let mut edges = Edges::new(alloc, count)?;
-    for place in 0..count {
-        add_before(&mut edges, takes.behind(place), place)?;
-    }
-    let mut search = Search::new(alloc, count)?;
-    for group in 0..count {
-        add_group(&mut edges, &mut search, takes, lists, group)?;
-    }
-    Ok(edges)
-}
-
-/// Puts each of the places before this one.
-fn add_before(edges: &mut Edges, places: &[usize], to: usize) -> Result<(), AllocError>
-    requires { (p : ℕ) → Contains places.now p → p < length edges.old }
-    ensures { OnOk result (Adds edges.old (λ p q. Contains places.now p × (q ≡ to)) edges.new) }
-{
-    for place in places {
-        edges.add(*place, to)?;
-    }
-    Ok(())
-}
-
-/// The order of the members of the group.
-fn add_group(
-    edges: &mut Edges,
-    search: &mut Search,
-    takes: &Edges,
-    lists: &Lists,
-    group: usize,
-) -> Result<(), AllocError>
-    requires size { length edges.old ≡ length takes.now }
-    requires clear { IsClear (length takes.now) search.old }
-    requires checks { IsWithin (length takes.now) lists.now.checks }
-    requires users { IsWithin (length takes.now) lists.now.users }
-    ensures clear { OnOk result (IsClear (length takes.now) search.new) }
-    ensures edges { OnOk result (Adds edges.old (IsAsked takes.now lists.now group) edges.new) }
-{
-    let checks = lists.checks.behind(group);
-    add_states(edges, lists.users.behind(group), lists.nexts.behind(group))?;
-    add_line(edges, checks)?;
-    add_loads(edges, search, takes, checks, lists.loads.behind(group))?;
-    Ok(())
-}
-
-/// Puts each user of the state before each next state.
-fn add_states(edges: &mut Edges, users: &[usize], nexts: &[usize]) -> Result<(), AllocError>
-    requires { (p : ℕ) → Contains users.now p → p < length edges.old }
-    ensures { OnOk result (Adds edges.old (λ p q. Contains users.now p × Contains nexts.now q) edges.new) }
-{
-    for next in nexts {
-        add_before(edges, users, *next)?;
-    }
-    Ok(())
-}
-
-/// Puts each place of the list before the next.
-fn add_line(edges: &mut Edges, places: &[usize]) -> Result<(), AllocError>
-    requires { (p : ℕ) → Contains places.now p → p < length edges.old }
-    ensures { OnOk result (Adds edges.old (Follows places.now) edges.new) }
-{
-    for index in 1..places.len() {
-        edges.add(places[index - 1], places[index])?;
-    }
-    Ok(())
-}
-
-/// Puts before each load the last check that comes before the first that needs the load.
-fn add_loads(
-    edges: &mut Edges,
-    search: &mut Search,
-    takes: &Edges,
-    checks: &[usize],
-    loads: &[usize],
-) -> Result<(), AllocError>
-    requires clear { IsClear (length takes.now) search.old }
-    requires within { (p : ℕ) → Contains checks.now p → p < length edges.old }
-    ensures clear { OnOk result (IsClear (length takes.now) search.new) }
-    ensures edges { OnOk result (Adds edges.old (λ p q. Contains loads.now q × IsLastBefore takes.now checks.now p q) edges.new) }
-{
-    if loads.is_empty() {
-        return Ok(());
-    }
-    meet(search, takes, checks)?;
-    put_loads(edges, search, takes, checks, loads)?;
-    search.clear();
-    Ok(())
-}
-
-/// Searches for what each of the checks needs, one after the other; labels are their indices.
-fn meet(search: &mut Search, takes: &Edges, checks: &[usize]) -> Result<(), AllocError>
-    requires { IsClear (length takes.now) search.old }
-    ensures size { OnOk result (length search.new.labels.items ≡ length takes.now) }
-    ensures marks { OnOk result (Marks search.new.labels.items search.new.reached.items) }
-    ensures ends { OnOk result (AreEnds takes.now checks.now search.new.labels.items) }
-{
-    for (index, check) in checks.iter().enumerate() {
-        search.extend(takes, takes.len(), *check, index)?;
-    }
-    Ok(())
-}
-
-/// The same of each load, once it is known which checks need it.
-fn put_loads(
-    edges: &mut Edges,
-    search: &Search,
-    takes: &Edges,
-    checks: &[usize],
-    loads: &[usize],
-) -> Result<(), AllocError>
-    requires ends { AreEnds takes.now checks.now search.now.labels.items }
-    requires within { (p : ℕ) → Contains checks.now p → p < length edges.old }
-    ensures { OnOk result (Adds edges.old (λ p q. Contains loads.now q × IsLastBefore takes.now checks.now p q) edges.new) }
-{
-    for load in loads {
-        put_load(edges, search, takes, checks, *load)?;
-    }
-    Ok(())
-}
-
-fn put_load(
-    edges: &mut Edges,
-    search: &Search,
-    takes: &Edges,
-    checks: &[usize],
-    load: usize,
-) -> Result<(), AllocError>
-    requires ends { AreEnds takes.now checks.now search.now.labels.items }
-    requires within { (p : ℕ) → Contains checks.now p → p < length edges.old }
-    ensures { OnOk result (Adds edges.old (λ p q. (q ≡ load) × IsLastBefore takes.now checks.now p q) edges.new) }
-{
-    let end = end_of(search.label(load), checks.len());
-    if end == 0 {
-        return Ok(());
-    }
-    edges.add(checks[end - 1], load)?;
-    Ok(())
-}
-
-fn end_of(label: Option<usize>, end: usize) -> usize
-    ensures { result ≡ end_of label end }
-{
-    label.unwrap_or(end)
+    members(alloc, groups, &picked, groups.len())
 }

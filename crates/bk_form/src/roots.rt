@@ -1,15 +1,13 @@
 // What copies of memory stand for.
 ghost use Rattle.std.specs.Prelude.{◌≡◌, ◌↔◌, ℕ, IfOk, OnOk, IsTrue, length, MatchOption, None, replicate};
-ghost use Rattle.bk_func.specs.Form.States.{CopiesMemory};
+ghost use Rattle.bk_places.specs.Search.{Marks};
 ghost use Rattle.bk_form.specs.Places.{nodes_of};
 ghost use Rattle.bk_form.specs.Roots.{AreCopies, AreRoots, Copies};
-ghost use Rattle.bk_form.specs.Search.{Marks};
 ghost use Rattle.bk_form.specs.Walks.{IsFlow};
 
 use crate::flow::Flow;
-use crate::search::{Edges, Search};
 use bk_func::Value;
-use bk_ops::{Family, Ty};
+use bk_places::{Edges, Search, copies_memory};
 use std::alloc::{AllocError, Global};
 
 /// For each value the place of the one that it stands for: itself, or of a copy of memory what it copies in the
@@ -69,14 +67,4 @@ fn copied(flow: &Flow, value: &Value) -> Option<usize>
     let id = first?;
     let place = flow.scope.numbers.value(id);
     place
-}
-
-/// Whether the value is a copy of memory.
-fn copies_memory(value: &Value) -> bool
-    ensures { IsTrue result ↔ CopiesMemory value.now }
-{
-    match value.op.family {
-        Family::Copy => value.ty == Ty::Mem,
-        _ => false,
-    }
 }

@@ -4,14 +4,15 @@ ghost use Rattle.std.specs.List.{All};
 ghost use Rattle.bk_func.specs.Records.{BlockRecord, ValueRecord};
 ghost use Rattle.bk_func.specs.Form.Before.{Precedes};
 ghost use Rattle.bk_func.specs.Form.Text.{HasBlock, HasValue};
+ghost use Rattle.bk_places.specs.Search.{Leads};
 ghost use Rattle.bk_form.specs.Finds.{Finds, FindsIn};
-ghost use Rattle.bk_form.specs.Orders.{IsOrder, Leads, Settles};
+ghost use Rattle.bk_form.specs.Orders.{IsOrder, Settles};
 ghost use Rattle.bk_form.specs.Walks.{IsFlow};
 
 use crate::Place;
 use crate::flow::Flow;
-use crate::search::{Edges, Search};
 use bk_func::{Block, Value};
+use bk_places::{Edges, Search};
 use std::alloc::{AllocError, Global};
 
 /// The first value that has to come before itself, by edges from values to those that they come before.

@@ -6,20 +6,21 @@ ghost use Rattle.bk_func.specs.Records.{ValueRecord, SigRecord};
 ghost use Rattle.bk_func.specs.Form.Text.{IsPhi};
 ghost use Rattle.bk_func.specs.Form.Signatures.{sig_of};
 ghost use Rattle.bk_func.specs.Form.Shapes.{FitsWordOf};
+ghost use Rattle.bk_places.specs.Search.{IsClear};
 ghost use Rattle.bk_form.specs.Names.{IsScope, measure, seen_callee};
 ghost use Rattle.bk_form.specs.Places.{NodeRecord, nodes_of, first_named, mark_of};
 ghost use Rattle.bk_form.specs.Roots.{AreRoots};
-ghost use Rattle.bk_form.specs.Sent.{Passes, LeadsTo, StepsTo, IsFoundFrom, AreSteps, AnswersCalls, IsClear};
+ghost use Rattle.bk_form.specs.Sent.{Passes, LeadsTo, StepsTo, IsFoundFrom, AreSteps, AnswersCalls};
 ghost use Rattle.bk_form.specs.Walks.{IsFlow};
 
 use crate::flow::{Flow, is_home};
 use crate::names::{Callee, Scope};
 use crate::naming::named;
 use crate::places::Node;
-use crate::search::{Edges, Search};
 use crate::words::{fits_word, is_argument_word};
 use bk_func::Value;
 use bk_ops::{is_phi, is_word_call};
+use bk_places::{Edges, Search};
 use std::alloc::{AllocError, Global};
 
 /// What is asked of a word and of the signature of the call behind it.

@@ -2,6 +2,7 @@
 #![tactic(auto)]
 
 mod errors;
+mod known;
 mod machine;
 mod returned;
 mod starting;

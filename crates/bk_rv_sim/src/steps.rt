@@ -3,6 +3,7 @@ ghost use Rattle.bk_rv_isa.specs.declared.inst.Inst.TheVariants.{Ebreak};
 ghost use Rattle.bk_rv_isa.specs.Machine.{reg, put, fetch, load, load_size, load_result, store_size, with_reg, on_load, on_store, store, act, step, run};
 ghost use Rattle.bk_rv_sim.specs.View.{view, ended};
 
+use crate::known::Known;
 use crate::machine::Machine;
 use crate::values::{
     extended, immediate_result, is_taken, load_result, load_size, plus, register_result,
@@ -10,7 +11,7 @@ use crate::values::{
 };
 use bk_machine::Stop;
 use bk_num::{DATA_BASE, HALT, POOL_BASE, TEXT_BASE, load_in, residue, store_in};
-use bk_rv_isa::{Inst, LoadOp, StoreOp, decode};
+use bk_rv_isa::{Inst, LoadOp, StoreOp};
 
 fn reg(regs: &[u64], k: u8) -> u64
     ensures { result ≡ reg regs.now k }
@@ -32,7 +33,7 @@ fn put(regs: &mut [u64], k: u8, n: u64)
     }
 }
 
-fn fetch(text: &[u32], pc: u64) -> Option<Inst>
+fn fetch(known: &mut Known, text: &[u32], pc: u64) -> Option<Inst>
     requires { length text.now ≤ 4194304 }
     ensures value { result ≡ fetch text.now pc }
     ensures pc { IsSome result → pc < 2 ^ 32 }
@@ -40,8 +41,9 @@ fn fetch(text: &[u32], pc: u64) -> Option<Inst>
     if pc < TEXT_BASE || pc % 4 != 0 {
         return None;
     }
-    let word = text.get(((pc - TEXT_BASE) / 4) as usize)?;
-    decode(*word)
+    let place = ((pc - TEXT_BASE) / 4) as usize;
+    let word = text.get(place)?;
+    known.decode(place, *word)
 }
 
 #[tactic(auto, unfolding(bk_num::specs::Memory::read))]
@@ -180,18 +182,26 @@ fn act(machine: &mut Machine, inst: Inst) -> Option<Stop>
     }
 }
 
-/// One step: the stop if there is one.
-pub fn step(machine: &mut Machine) -> Option<Stop>
+// One step, with the words that were read before.
+fn step_by(machine: &mut Machine, known: &mut Known) -> Option<Stop>
     ensures state { (result, view machine.new) ≡ step (view machine.old) }
     ensures sig { machine.new.sig ≡ machine.old.sig }
 {
     if machine.pc == HALT {
         return Some(Stop::Returned);
     }
-    match fetch(&machine.text, machine.pc) {
+    match fetch(known, &machine.text, machine.pc) {
         Some(inst) => act(machine, inst),
         None => Some(Stop::Fault(machine.pc)),
     }
+}
+
+/// One step: the stop if there is one.
+pub fn step(machine: &mut Machine) -> Option<Stop>
+    ensures state { (result, view machine.new) ≡ step (view machine.old) }
+    ensures sig { machine.new.sig ≡ machine.old.sig }
+{
+    step_by(machine, &mut Known::new())
 }
 
 /// At most `bound` steps, up to the first stop: Going where none of them stopped.
@@ -199,8 +209,9 @@ pub fn run(machine: &mut Machine, bound: u64) -> Stop
     ensures state { (result, view machine.new) ≡ ended (run bound (view machine.old)) }
     ensures sig { machine.new.sig ≡ machine.old.sig }
 {
+    let mut known = Known::new();
     for _step in 0..bound {
-        if let Some(stop) = step(machine) {
+        if let Some(stop) = step_by(machine, &mut known) {
             return stop;
         }
     }

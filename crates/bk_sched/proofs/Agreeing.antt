@@ -22,11 +22,11 @@ use Rattle.bk_func.specs.Form.Signatures.{Setting}
 use Rattle.bk_func.specs.Form.States as states
 use Rattle.bk_func.specs.Form.States.{CopiesMemory, IsState}
 use Rattle.bk_func.specs.Form.Text.{HasBlock, HasValue, IsPhi}
+use Rattle.bk_places.proofs.Elements.{contains_at, to_in, to_contains, in_either}
+use Rattle.bk_places.proofs.NamesAt.{phi_names}
 use Rattle.bk_sched.specs.Order.{ComesBefore, HasOwnNumbers, Names, Precedes, StandsFor, outside, itself, copied, argument, state, checks, needed, unneeded, right, onward, is_call, are_results, is_state}
 use Rattle.bk_sched.specs.Schedule.{IsReady, Scheduled, done, next, rank_by, rank_of, score_by}
 use Rattle.bk_sched.proofs.Keeping.{in_scheduled}
-use Rattle.bk_sched.proofs.Lists.{contains_at, to_in, to_contains, in_either}
-use Rattle.bk_sched.proofs.Naming.{phi_names}
 
 -- a value bears the number, or none does
 pub borne : (vs : List ValueRecord) (n : ℕ) → ((v : ValueRecord) × In v vs × (v.id ≡ n)) ⊎ ((v : ValueRecord) → In v vs → ¬ (v.id ≡ n))

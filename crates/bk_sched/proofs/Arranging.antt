@@ -1,19 +1,21 @@
 -- That the edges of groups and of what is taken are those of values that come right before others.
-use Rattle.std.proofs.Common.{◌≡◌, ◌∙◌, sym, refl, ap, subst, ℕ, zero, suc, ◌+◌, ◌-◌, ◌<◌, ◌≤◌, ◌↔◌, List, [], length, get_or, replicate, Option, None, Some, inl, inr, ⊎_elim, arith}
+use Rattle.std.proofs.Common.{◌≡◌, ◌∙◌, sym, ap, subst, ℕ, ◌+◌, ◌-◌, ◌<◌, ◌≤◌, List, [], length, get_or, Option, None, Some, inl, inr, ⊎_elim, arith}
 use Rattle.std.specs.List.{Contains, slice_get}
 use Rattle.std.proofs.lemmas.Bool.{cases_lt}
-use Rattle.std.proofs.lemmas.List.{get_or_default, get_or_past, get_or-replicate, length-replicate}
+use Rattle.std.proofs.lemmas.List.{get_or_past, length-replicate}
 use Rattle.std.proofs.lemmas.List.Elements.{Contains-get_or}
 use Rattle.std.proofs.lemmas.Option.{same_Some, slice_get_within}
 use Rattle.bk_func.specs.Records.{ValueRecord, BlockRecord}
 use Rattle.bk_func.specs.Form.Before.{IsLoad, IsNilCheck, IsTakenBy, Needs}
-use Rattle.bk_sched.specs.declared.order.Lists.{Lists}
-use Rattle.bk_sched.specs.declared.order.Role.TheVariants.{User, Next}
-use Rattle.bk_sched.specs.Arranged.{Adds, AreListed, AreLists, AreTakes, Follows, HasRole, IsAsked, IsEnd, IsLastBefore, IsOrder, IsRightBefore}
+use Rattle.bk_places.specs.declared.order.Lists.{Lists}
+use Rattle.bk_places.specs.declared.role.Role.TheVariants.{User}
+use Rattle.bk_places.proofs.Elements.{at_contains, at_some, contains_at, none_in}
+use Rattle.bk_places.proofs.Leading.{AreRightBefore, before_in, check_leads, index_of, line_leads, right_edge}
+use Rattle.bk_places.specs.Order.{Follows, HasRole, IsAsked, IsEnd, IsLastBefore, IsRightBefore}
+use Rattle.bk_places.specs.Search.{IsEdge, Leads, Path, here}
+use Rattle.bk_sched.specs.Arranged.{AreListed, AreLists, AreTakes, IsNext, IsOrder}
 use Rattle.bk_sched.specs.Named.{AreNamed}
 use Rattle.bk_sched.specs.Order.{Checks, ComesBefore, HasOwnNumbers, Names, argument, checks, needed, state, unneeded}
-use Rattle.bk_sched.specs.Search.{IsEdge, Leads, Path, here, onward}
-use Rattle.bk_sched.proofs.Lists.{at_contains, at_some, contains_at, none_in}
 use Rattle.bk_sched.proofs.Needing.{edge_taken, listed_from, listed_to, needs_path, path_needs, taken_edge}
 
 -- no value is a check and a load
@@ -55,23 +57,10 @@ joins b ns gs named P Q es listed g p q s u v x eq nu nv fact =
     let same : h ≡ g = same_Some h g (sym gp ∙ x.group) in
     (listed.each g q).1 (v, eq, gq ∙ ap Some same, fact)
 
--- places of a rising list
-index_of : (xs : List ℕ) (p : ℕ) → Contains xs p → (k : ℕ) × k < length xs × (get_or xs k 0 ≡ p)
-index_of xs p (k, l, e) = (k, l, get_or_default xs k 0 p l ∙ e)
-
-before_in : (xs : List ℕ) → ((j k : ℕ) → j < k → k < length xs → get_or xs j 0 < get_or xs k 0) → (j k : ℕ) → j < length xs → k < length xs → get_or xs j 0 < get_or xs k 0 → j < k
-before_in xs rising j k a b l = ⊎_elim
-    (λ (low : j < k). low)
-    (λ (high : k ≤ j). ⊎_elim
-    (λ (less : k < j). absurd (omega (arith, l, rising k j less a)))
-    (λ (same : j ≤ k). let is : j ≡ k = omega (arith, high, same) in absurd (omega (arith, l, ap (λ n. get_or xs n 0) is)))
-    (cases_lt k j))
-    (cases_lt j k)
-
 -- a check of the state that needs the value stands in the list of checks, and a path leads from it
 check_path : (b : BlockRecord) (ns : List ℕ) (gs : List (Option ℕ)) → AreNamed b ns gs → (es : List (List ℕ)) → AreTakes b.values es → (l : Lists) → AreLists b.values gs l → (P : ValueRecord → Type 0) (g p q s : ℕ)
     (u v x : ValueRecord) → IsMember b gs P g p u → Names b u s → slice_get b.values q ≡ Some v → Checks b x s → Needs b x v
-    → (r k : ℕ) × (slice_get b.values r ≡ Some x) × k < length (get_or l.checks g []) × (get_or (get_or l.checks g []) k 0 ≡ r) × Path es r q
+    → (r k : ℕ) × (slice_get b.values r ≡ Some x) × k < length (get_or l.checks g []) × (get_or (get_or l.checks g []) k 0 ≡ r) × Path es (length es) r q
 check_path b ns gs named es taking l lists P g p q s u v x m names eq (inside, check, named_x) needs =
     let (r, er) = at_contains b.values x inside in
     let c = joins b ns gs named P IsNilCheck l.checks lists.checks g p r s u x m er names named_x check in
@@ -83,9 +72,9 @@ state_comes : (b : BlockRecord) (ns : List ℕ) (gs : List (Option ℕ)) → Are
     → Contains (get_or l.users g []) p → Contains (get_or l.nexts g []) q → (v : ValueRecord) × (slice_get b.values q ≡ Some v) × ComesBefore b u v
 state_comes b ns gs named l lists g p q u ep cp cq =
     let x = member b gs (HasRole User) l.users lists.users g p u ep cp in
-    let (v, y) = listed_value b gs (HasRole Next) l.nexts lists.nexts g q cq in
+    let (v, y) = listed_value b gs IsNext l.nexts lists.nexts g q cq in
     let (s, names) = named.named p g u ep x.group in
-    let (inside, named_v) = beside b ns gs named (HasRole User) (HasRole Next) g p q s u v x y names in
+    let (inside, named_v) = beside b ns gs named (HasRole User) IsNext g p q s u v x y names in
     (v, y.at, state u v s (contains_at b.values p u ep) x.fact names inside y.fact named_v)
 
 check_comes : (b : BlockRecord) (ns : List ℕ) (gs : List (Option ℕ)) → AreNamed b ns gs → (l : Lists) → AreLists b.values gs l → (g p q : ℕ) (u : ValueRecord) → slice_get b.values p ≡ Some u
@@ -120,7 +109,7 @@ load_comes b own ns gs named es taking l lists g p q u ep cq (k, low, at_k, end)
         unneeded u v s (contains_at b.values p u ep, x.fact, names) (inside, y.fact, named_v)
         (λ z check needs.
         let (r, j, er, lj, aj, path) = check_path b ns gs named es taking l lists IsNilCheck g p q s u v z x names y.at check needs in
-        end.free j (omega (arith, lj, over)) (subst (λ (n : ℕ). Path es n q) (sym aj) path))
+        end.free j (omega (arith, lj, over)) (subst (λ (n : ℕ). Path es (length es) n q) (sym aj) path))
 
     waits : (s : ℕ) → IsMember b gs IsNilCheck g p u → (v : ValueRecord) → IsMember b gs IsLoad g q v → Names b u s → Contains b.values v → Names b v s → k + 1 < length xs → ComesBefore b u v
     waits s x v y names inside named_v less =
@@ -138,7 +127,7 @@ load_comes b own ns gs named es taking l lists g p q u ep cq (k, low, at_k, end)
         let (r, j, er, lj, aj, path) = check_path b ns gs named es taking l lists IsNilCheck g p q s u v o x names y.at check more in
         let early : r < t = listed_to b own r t o n er z.at listed in
         let first : j < k + 1 = before_in xs (lists.checks.rising g) j (k + 1) lj less (omega (arith, early, aj)) in
-        end.free j first (subst (λ (c : ℕ). Path es c q) (sym aj) path))
+        end.free j first (subst (λ (c : ℕ). Path es (length es) c q) (sym aj) path))
         (listed_from b p t u n ep z.at (omega (arith, lists.checks.rising g k (k + 1) (omega arith) less, at_k)))
 
 asked_comes : (b : BlockRecord) → HasOwnNumbers b → (ns : List ℕ) (gs : List (Option ℕ)) → AreNamed b ns gs → (es : List (List ℕ)) → AreTakes b.values es → (l : Lists) → AreLists b.values gs l → (g p q : ℕ)
@@ -167,68 +156,6 @@ edge_comes b own ns gs named es taking l lists n p q u ep h = ⊎_elim taken (λ
         let (w, ew, is) = edge_taken b es taking q p v ev edge in
         (v, ev, argument u v (subst (λ (x : ValueRecord). IsTakenBy b x v) (same_Some w u (sym ew ∙ ep)) is))
 
--- paths that go on
-path_on : (es : List (List ℕ)) (s p q : ℕ) → Path es s p → Path es p q → Path es s q
-path_on es s p _ front (here within) = front
-path_on es s p _ front (onward t q path edge within) = onward t q (path_on es s p t front path) edge within
-
-pub leads_on : (es : List (List ℕ)) (p q r : ℕ) → Leads es p q → Leads es q r → Leads es p r
-leads_on es p q r (t, e, w, path) (x, d, v, more) = (t, e, w, path_on es t x r (onward q x path d v) more)
-
--- the edges of the order
-abbrev pub AreRightBefore : List (List ℕ) → Lists → ℕ → List (List ℕ) → Type 0
-AreRightBefore es l n ds = Adds (replicate (length es) []) (IsRightBefore es l n) ds
-
-right_edge : (es : List (List ℕ)) (l : Lists) (m : ℕ) (ds : List (List ℕ)) → AreRightBefore es l m ds → (p q : ℕ) → IsEdge ds p q ↔ IsRightBefore es l m p q
-right_edge es l m ds adds p q = (
-  (λ e. ⊎_elim (λ c. absurd (none_in q (subst (λ (us : List ℕ). Contains us q) (nothing p) c))) (λ r. r) ((adds.edge p q).0 e)),
-  (λ r. (adds.edge p q).1 (inr r)),
-)
-  where
-    nothing : (p : ℕ) → get_or {A = List ℕ} (replicate (length es) []) p [] ≡ []
-    nothing p = ⊎_elim (λ (b : p < length es). get_or-replicate (length es) p [] [] b) (λ c. get_or_past (replicate (length es) []) p [] (rw length-replicate c)) (cases_lt p (length es))
-
--- along a line of checks
-line_leads : (es : List (List ℕ)) (l : Lists) (m : ℕ) (ds : List (List ℕ)) → AreRightBefore es l m ds → (g : ℕ) → g < m → ((p : ℕ) → Contains (get_or l.checks g []) p → p < length es)
-    → (j k : ℕ) → j + 1 + k < length (get_or l.checks g []) → Leads ds (get_or (get_or l.checks g []) j 0) (get_or (get_or l.checks g []) (j + 1 + k) 0)
-line_leads es l m ds adds g low within j zero short =
-    let xs = get_or l.checks g [] in
-    let inside = within (get_or xs (j + 1) 0) (Contains-get_or xs (j + 1) 0 (omega (arith, short))) in
-    let size : length ds ≡ length es = adds.size ∙ length-replicate (length es) [] in
-    let edge : IsEdge ds (get_or xs j 0) (get_or xs (j + 1) 0) = (right_edge es l m ds adds (get_or xs j 0) (get_or xs (j + 1) 0)).1 (inr (g, low, inr (inl (j, omega (arith, short), refl, refl)))) in
-    let one : Leads ds (get_or xs j 0) (get_or xs (j + 1) 0) = (get_or xs (j + 1) 0, edge, omega (arith, inside, size), here (omega (arith, inside, size))) in
-    let end : j + 1 ≡ j + 1 + 0 = omega arith in
-    subst (λ (n : ℕ). Leads ds (get_or xs j 0) (get_or xs n 0)) end one
-line_leads es l m ds adds g low within j (suc k) short =
-    let xs = get_or l.checks g [] in
-    let n : j + 1 + suc k ≡ j + 1 + k + 1 = omega arith in
-    let inside = within (get_or xs (j + 1 + k + 1) 0) (Contains-get_or xs (j + 1 + k + 1) 0 (omega (arith, short))) in
-    let size : length ds ≡ length es = adds.size ∙ length-replicate (length es) [] in
-    let edge : IsEdge ds (get_or xs (j + 1 + k) 0) (get_or xs (j + 1 + k + 1) 0) =
-    (right_edge es l m ds adds (get_or xs (j + 1 + k) 0) (get_or xs (j + 1 + k + 1) 0)).1 (inr (g, low, inr (inl (j + 1 + k, omega (arith, short), refl, refl)))) in
-    let one : Leads ds (get_or xs (j + 1 + k) 0) (get_or xs (j + 1 + k + 1) 0) =
-    (get_or xs (j + 1 + k + 1) 0, edge, omega (arith, inside, size), here (omega (arith, inside, size))) in
-    subst (λ (i : ℕ). Leads ds (get_or xs j 0) (get_or xs i 0)) (sym n)
-    (leads_on ds (get_or xs j 0) (get_or xs (j + 1 + k) 0) (get_or xs (j + 1 + k + 1) 0) (line_leads es l m ds adds g low within j k (omega (arith, short))) one)
-
--- from a check to a load by the last check before its end
-check_leads : (es : List (List ℕ)) (l : Lists) (m : ℕ) (ds : List (List ℕ)) → AreRightBefore es l m ds → (g : ℕ) → g < m → ((p : ℕ) → Contains (get_or l.checks g []) p → p < length es)
-    → (j e q : ℕ) → j < e → q < length es → Contains (get_or l.loads g []) q → IsEnd es (get_or l.checks g []) q e → Leads ds (get_or (get_or l.checks g []) j 0) q
-check_leads es l m ds adds g low within j e q first inside c end =
-    let xs = get_or l.checks g [] in
-    let next : e ≡ e - 1 + 1 = omega (arith, first) in
-    let size : length ds ≡ length es = adds.size ∙ length-replicate (length es) [] in
-    let edge : IsEdge ds (get_or xs (e - 1) 0) q =
-    (right_edge es l m ds adds (get_or xs (e - 1) 0) q).1 (inr (g, low, inr (inr (c, (e - 1, omega (arith, first, end.within), refl, subst (λ (n : ℕ). IsEnd es xs q n) next end))))) in
-    let one : Leads ds (get_or xs (e - 1) 0) q = (q, edge, omega (arith, inside, size), here (omega (arith, inside, size))) in
-    ⊎_elim
-    (λ (less : j < e - 1).
-    let n : j + 1 + (e - 1 - (j + 1)) ≡ e - 1 = omega (arith, less) in
-    leads_on ds (get_or xs j 0) (get_or xs (e - 1) 0) q
-    (subst (λ (i : ℕ). Leads ds (get_or xs j 0) (get_or xs i 0)) n (line_leads es l m ds adds g low within j (e - 1 - (j + 1)) (omega (arith, less, end.within)))) one)
-    (λ (over : e - 1 ≤ j). let same : e - 1 ≡ j = omega (arith, over, first) in subst (λ (i : ℕ). Leads ds (get_or xs i 0) q) same one)
-    (cases_lt j (e - 1))
-
 -- what comes right before is led to
 edge_leads : (b : BlockRecord) (es : List (List ℕ)) → AreTakes b.values es → (l : Lists) (m : ℕ) (ds : List (List ℕ)) → AreRightBefore es l m ds → (p q : ℕ) (v : ValueRecord) → slice_get b.values q ≡ Some v
     → IsRightBefore es l m p q → Leads ds p q
@@ -243,7 +170,7 @@ listed_within b gs es taking P xs listed g p c = let (v, e, group, fact) = (list
 
 -- no check before the first that needs the load needs it
 none_before : (b : BlockRecord) (ns : List ℕ) (gs : List (Option ℕ)) → AreNamed b ns gs → (es : List (List ℕ)) → AreTakes b.values es → (l : Lists) → AreLists b.values gs l → (g p q s j : ℕ)
-    (u v : ValueRecord) → IsMember b gs IsNilCheck g p u → Names b u s → slice_get b.values q ≡ Some v → IsLoad v → j < length (get_or l.checks g []) → Path es (get_or (get_or l.checks g []) j 0) q
+    (u v : ValueRecord) → IsMember b gs IsNilCheck g p u → Names b u s → slice_get b.values q ≡ Some v → IsLoad v → j < length (get_or l.checks g []) → Path es (length es) (get_or (get_or l.checks g []) j 0) q
     → (x : ValueRecord) × (slice_get b.values (get_or (get_or l.checks g []) j 0) ≡ Some x) × Checks b x s × Needs b x v
 none_before b ns gs named es taking l lists g p q s j u v m names eq load low path =
     let r = get_or (get_or l.checks g []) j 0 in
@@ -290,7 +217,7 @@ whole b own ns gs named es taking l lists ds adds _ _ (needed u v w s cu lv cw n
       free = λ n ln way.
           let (x, ex, cx, nx) = none_before b ns gs named es taking l lists g p q s n u v m cu.2 eq lv.1 (omega (arith, ln, lk)) way in
           first x cx nx (listed_from b (get_or xs n 0) r x w ex er (omega (arith, ak, lists.checks.rising g n k ln lk)));
-      met = λ inside. subst (λ (t : ℕ). Path es t q) (sym ak) path;
+      met = λ inside. subst (λ (t : ℕ). Path es (length es) t q) (sym ak) path;
     } in
     let load = (lists.loads.each g q).1 (v, eq, gq, lv.1) in
     subst (λ (t : ℕ). Leads ds t q) aj

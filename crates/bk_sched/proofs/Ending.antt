@@ -11,10 +11,10 @@ use Rattle.bk_func.specs.Meaning.{Outcome, wild, fault_at, first_fault, or_else}
 use Rattle.bk_func.specs.Form.Before.{IsLoad, IsNilCheck, IsListed, Needs}
 use Rattle.bk_func.specs.Form.Text.{HasBlock}
 use Rattle.bk_func.proofs.Faults.{In, in-filter, first_fault-append, none_first, none_in}
+use Rattle.bk_places.proofs.Elements.{to_in, in_either, in_left, in_right}
 use Rattle.bk_sched.specs.Order.{Checks, Loads, checks, needed, unneeded, right}
 use Rattle.bk_sched.proofs.Agreeing.{NoCopies}
 use Rattle.bk_sched.proofs.Keeping.{all_scheduled, in_scheduled}
-use Rattle.bk_sched.proofs.Lists.{to_in, in_either, in_left, in_right}
 use Rattle.bk_sched.proofs.Running.{Run, Tail, Walk, acts_at_state, acts_either, against, check_in, check_origin, cut_left, end_fault, filter-append, filter_cut, finds, first_at, front_in, in_checks, in_loads, listed_in, load_in, load_origin, mid, middle, none_list, pick, place_in, tail, walk, wild_load, wild_loads}
 
 not_both : (v : ValueRecord) → IsNilCheck v → IsLoad v → ⊥

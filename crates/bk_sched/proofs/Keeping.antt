@@ -6,9 +6,9 @@ use Rattle.std.proofs.lemmas.List.{length-append, map-append}
 use Rattle.std.proofs.lemmas.List.Sums.{sum_by-append, sum_by-cons}
 use Rattle.bk_func.proofs.Faults.{In}
 use Rattle.bk_func.specs.Records.{ValueRecord, BlockRecord}
+use Rattle.bk_places.proofs.Elements.{to_in, to_contains, in_left, in_right, in_either}
 use Rattle.bk_sched.specs.Order.{Precedes, right, onward}
 use Rattle.bk_sched.specs.Schedule.{IsReady, Scheduled, done, next}
-use Rattle.bk_sched.proofs.Lists.{to_in, to_contains, in_left, in_right, in_either}
 
 mid : (v : ValueRecord) (xs ys : List ValueRecord) → In v (xs ++ v ∷ ys)
 mid v xs ys = in_right v xs (v ∷ ys) (inl refl)

@@ -7,8 +7,8 @@ use Rattle.std.proofs.lemmas.List.{length-append}
 use Rattle.std.proofs.lemmas.List.Sums.{sum_by-cons, sum_by-append}
 use Rattle.bk_func.proofs.Faults.{In, in-filter}
 use Rattle.bk_func.proofs.Needs.{in_any, any_in}
+use Rattle.bk_places.proofs.Elements.{in_either, in_left, in_right}
 use Rattle.bk_sched.specs.Turns.{count_in}
-use Rattle.bk_sched.proofs.Lists.{in_either, in_left, in_right}
 
 -- the places behind a place
 abbrev pub behind : List (List ℕ) → ℕ → List ℕ

@@ -1,137 +1,30 @@
 -- What values name of memory, and what numbers stand for.
-use Rattle.std.proofs.Common.{◌≡◌, ◌∙◌, sym, refl, ap, subst, ℕ, ◌+◌, ◌<◌, ◌≤◌, ◌⊎◌, ◌↔◌, true, false, cond, List, [], ◌∷◌, ◌++◌, length, get_or, set, replicate, Option, None, Some, inl, inr, ⊎_elim, arith}
+use Rattle.std.proofs.Common.{◌≡◌, ◌∙◌, sym, refl, ap, subst, ℕ, ◌+◌, ◌<◌, ◌≤◌, ◌⊎◌, ◌↔◌, List, [], ◌∷◌, ◌++◌, length, get_or, set, replicate, Option, None, Some, inl, inr, ⊎_elim, arith}
 use Rattle.std.specs.List.{Contains, slice_get}
-use Rattle.std.specs.Option.{MatchOption}
-use Rattle.std.proofs.lemmas.Bool.{cases_eq, cases_lt, false≢true}
+use Rattle.std.proofs.lemmas.Bool.{cases_eq, cases_lt}
 use Rattle.std.proofs.lemmas.List.{get_or_past, get_or-replicate, get_or-set_other, get_or-set_same, length-replicate, length-set}
 use Rattle.std.proofs.lemmas.List.Elements.{Contains-append_left, Contains-push, Contains-push_cases}
 use Rattle.std.proofs.lemmas.Option.{slice_get_within, none-some, same_Some}
-use Rattle.bk_ops.specs.Table.{info_of, is_op, row, entry, unknown}
-use Rattle.bk_ops.specs.declared.table.Op.{Op}
-use Rattle.bk_ops.specs.declared.family.Family.{Family}
-use Rattle.bk_ops.specs.declared.family.Family.TheVariants.{Copy, Phi, ResReg, ResWord, SelectN}
-use Rattle.bk_ops.specs.Families.{is_call_result}
 use Rattle.bk_func.specs.Records.{ValueRecord, BlockRecord}
-use Rattle.bk_func.specs.Form.Text.{IsPhi}
-use Rattle.bk_func.specs.Form.States.{CopiesMemory, NamesAt}
-use Rattle.bk_sched.specs.Named.{AreCopies, AreKnown, AreNamed, AreRoots, Copies, IsCopyAt, NamesBy, NamesFirst, NamesPlace, place_in}
+use Rattle.bk_func.specs.Form.States.{CopiesMemory}
+use Rattle.bk_places.proofs.Elements.{at_contains, at_some, contains_at, none_in}
+use Rattle.bk_places.proofs.Filling.{Filled}
+use Rattle.bk_places.proofs.Positions.{one_number, place_found, place_gets}
+use Rattle.bk_places.proofs.Reaching.{path_start, path_more}
+use Rattle.bk_places.proofs.Sowing.{Sown}
+use Rattle.bk_places.specs.Named.{NamesBy, place_in}
+use Rattle.bk_places.specs.Search.{IsEdge, Path, here, onward, with_edge}
+use Rattle.bk_places.proofs.NamesAt.{copies_first_arg}
+use Rattle.bk_sched.specs.Named.{AreCopies, AreKnown, AreNamed, AreRoots, Copies, IsCopyAt, NamesPlace}
 use Rattle.bk_sched.specs.Order.{HasOwnNumbers, Names, StandsFor, outside, itself, copied}
-use Rattle.bk_sched.specs.Search.{IsEdge, Path, here, onward, with_edge}
-use Rattle.bk_sched.proofs.Listing.{Filled}
-use Rattle.bk_sched.proofs.Lists.{at_contains, at_some, contains_at, none_in}
-use Rattle.bk_sched.proofs.Placing.{one_number, own_place, place_above, place_below, place_found, place_gets}
-use Rattle.bk_sched.proofs.Reaching.{path_start}
-use Rattle.bk_sched.proofs.Sowing.{Sown}
-
--- the ops that name a state by their first argument take no memory last
-no_memory : (o : Op) (g : Family) → o.family ≡ g → ((a b : ℕ) → (row g a b).info.memory ≡ false) → (info_of o).memory ≡ false
-unfolding info_of
-no_memory o g e none =
-    elim (is_op o.family o.a o.b) as (λ t. (cond t (row o.family o.a o.b).info unknown).memory ≡ false) [
-      | true ↦ subst (λ (h : Family). (row h o.a o.b).info.memory ≡ false) (sym e) (none o.a o.b)
-      | false ↦ refl
-    ]
-
-copy_none : (a b : ℕ) → (row Copy a b).info.memory ≡ false
-unfolding row entry
-copy_none a b = refl
-
-result_none : (a b : ℕ) → (row SelectN a b).info.memory ≡ false
-unfolding row entry
-result_none a b = refl
-
-word_none : (a b : ℕ) → (row ResWord a b).info.memory ≡ false
-unfolding row entry
-word_none a b = refl
-
-register_none : (a b : ℕ) → (row ResReg a b).info.memory ≡ false
-unfolding row entry
-register_none a b = refl
-
--- a result of a call takes no memory last
-call_result_none : (f : Family) → is_call_result f ≡ true → (a b : ℕ) → (row f a b).info.memory ≡ false
-call_result_none SelectN e a b = result_none a b
-call_result_none ResWord e a b = word_none a b
-call_result_none ResReg e a b = register_none a b
-call_result_none _ e a b = absurd (false≢true e)
-
-phi_none : (a b : ℕ) → (row Phi a b).info.memory ≡ false
-unfolding row entry
-phi_none a b = refl
-
-first_none : (v : ValueRecord) → NamesFirst v → (info_of v.op).memory ≡ false
-first_none v h = ⊎_elim
-    (λ (copies : CopiesMemory v). no_memory v.op Copy copies.0 copy_none)
-    (λ (result : is_call_result v.op.family ≡ true). no_memory v.op v.op.family refl (call_result_none v.op.family result))
-    h
-
--- where the state is named
-pub at_first : (v : ValueRecord) → NamesFirst v → (k : ℕ) → NamesAt v k → k ≡ 0
-at_first v h k at = ⊎_elim
-    (λ (copies : CopiesMemory v × (k ≡ 0)). copies.1)
-    (λ rest. ⊎_elim (λ (one : (is_call_result v.op.family ≡ true) × (k ≡ 0)). one.1)
-    (λ (last : ((info_of v.op).memory ≡ true) × (k + 1 ≡ length v.args)). absurd (false≢true (sym (first_none v h) ∙ last.0)))
-    rest)
-    at
-
-first_at : (v : ValueRecord) → NamesFirst v → NamesAt v 0
-first_at v h = ⊎_elim
-    (λ copies. inl (copies, refl))
-    (λ e. inr (inl (e, refl)))
-    h
-
-at_last : (v : ValueRecord) → ¬ NamesFirst v → (k : ℕ) → NamesAt v k → ((info_of v.op).memory ≡ true) × (k + 1 ≡ length v.args)
-at_last v other k at = ⊎_elim
-    (λ (copies : CopiesMemory v × (k ≡ 0)). absurd (other (inl copies.0)))
-    (λ rest. ⊎_elim (λ (one : (is_call_result v.op.family ≡ true) × (k ≡ 0)). absurd (other (inr one.0))) (λ last. last) rest)
-    at
-
--- what the argument by which a state is named is
-pub by_first : (v : ValueRecord) (ns : List ℕ) → ns ≡ v.args → NamesFirst v → (o : Option ℕ) → o ≡ slice_get ns 0
-    → MatchOption o ((n : ℕ) → ¬ NamesBy v n) (λ n. (m : ℕ) → NamesBy v m ↔ (m ≡ n))
-by_first v ns same h None e = λ n (k, at, g).
-    none-some n (e ∙ (ap (λ us. slice_get us 0) same ∙ (ap (slice_get v.args) (sym (at_first v h k at)) ∙ g)))
-by_first v ns same h (Some x) e = λ m. (
-  λ (k, at, g). sym (same_Some x m (e ∙ (ap (λ us. slice_get us 0) same ∙ (ap (slice_get v.args) (sym (at_first v h k at)) ∙ g)))),
-  λ is. (0, first_at v h, sym (e ∙ ap (λ us. slice_get us 0) same) ∙ ap Some (sym is)),
-)
-
-pub by_last : (v : ValueRecord) (ns : List ℕ) → ns ≡ v.args → ¬ NamesFirst v → (info_of v.op).memory ≡ true → (l : ℕ) (o : Option ℕ) → o ≡ slice_get ns l → l + 1 ≡ length ns
-    → MatchOption o ((n : ℕ) → ¬ NamesBy v n) (λ n. (m : ℕ) → NamesBy v m ↔ (m ≡ n))
-by_last v ns same other memory l None e long = λ n (k, at, g).
-    let end = (at_last v other k at).1 in
-    let is : k ≡ l = omega (arith, end, long, ap length same) in
-    none-some n (e ∙ (ap (λ us. slice_get us l) same ∙ (ap (slice_get v.args) (sym is) ∙ g)))
-by_last v ns same other memory l (Some x) e long = λ m. (
-  λ (k, at, g).
-      let end = (at_last v other k at).1 in
-      let is : k ≡ l = omega (arith, end, long, ap length same) in
-      sym (same_Some x m (e ∙ (ap (λ us. slice_get us l) same ∙ (ap (slice_get v.args) (sym is) ∙ g)))),
-  λ is. (l, inr (inr (memory, long ∙ ap length same)), sym (e ∙ ap (λ us. slice_get us l) same) ∙ ap Some (sym is)),
-)
-
--- a phi names nothing
-pub phi_names : (v : ValueRecord) → IsPhi v → (k : ℕ) → ¬ NamesAt v k
-phi_names v phi k at = ⊎_elim
-    (λ (copies : CopiesMemory v × (k ≡ 0)). other Copy (sym phi ∙ copies.0.0) (λ e. cc))
-    (λ more. ⊎_elim (λ (one : (is_call_result v.op.family ≡ true) × (k ≡ 0)). false≢true (sym (ap is_call_result phi) ∙ one.0))
-    (λ (last : ((info_of v.op).memory ≡ true) × (k + 1 ≡ length v.args)). false≢true (sym (no_memory v.op Phi phi phi_none) ∙ last.0))
-    more)
-    at
-  where
-    other : (g : Family) → Phi ≡ g → (Phi ≡ g → ⊥) → ⊥
-    other g e apart = apart e
-
--- a copy of memory names what it copies
-copies_first_arg : (v : ValueRecord) (n : ℕ) → CopiesMemory v → NamesBy v n → slice_get v.args 0 ≡ Some n
-copies_first_arg v n copies (k, at, g) = ap (slice_get v.args) (sym (at_first v (inl copies) k at)) ∙ g
+use Rattle.bk_sched.proofs.Placing.{own_place, place_above, place_below}
 
 -- the starts of the search: numbers that are not those of copies
 abbrev pub IsRoot : BlockRecord → ℕ → Type 0
 IsRoot b p = ¬ ((v : ValueRecord) × (slice_get b.values p ≡ Some v) × CopiesMemory v)
 
 -- a path along copies says what a number stands for
-path_stands : (b : BlockRecord) → HasOwnNumbers b → (ns : List ℕ) → AreKnown b.values ns → (es : List (List ℕ)) → AreCopies b.values ns (length b.values) es → (r p : ℕ) → Path es r p → IsRoot b r
+path_stands : (b : BlockRecord) → HasOwnNumbers b → (ns : List ℕ) → AreKnown b.values ns → (es : List (List ℕ)) → AreCopies b.values ns (length b.values) es → (r p : ℕ) → Path es (length es) r p → IsRoot b r
     → (n s : ℕ) → place_in ns n ≡ Some p → place_in ns s ≡ Some r → StandsFor b n s
 path_stands b own ns known es copies r _ (here within) root n s en es' =
     let same : n ≡ s = one_number ns n s r en es' in
@@ -141,7 +34,7 @@ path_stands b own ns known es copies r _ (here within) root n s en es' =
     subst (λ (m : ℕ). StandsFor b m m) is (itself v (contains_at b.values r v ev) (λ c. root (v, ev, c))))
     (λ (high : length b.values ≤ r). outside n (place_above b own ns known n r en high))
     (cases_lt r (length b.values)))
-path_stands b own ns known es copies r _ (onward t p path edge within) root n s en es' =
+path_stands b own ns known es copies r _ (onward t p path apart edge within) root n s en es' =
     let (low, (v, ev, (is, (m, names, em)))) = (copies.edge t p).0 edge in
     let rest : StandsFor b m s = path_stands b own ns known es copies r t path root m s em es' in
     let (u, eu, number) = place_below b ns known n p en low in
@@ -152,7 +45,7 @@ path_stands b own ns known es copies r _ (onward t p path edge within) root n s 
 -- the number that a number stands for has a place, from which a path leads
 record Rooted (b : BlockRecord) (ns : List ℕ) (es : List (List ℕ)) (s p r : ℕ) : Type 0 where
   pub place : place_in ns s ≡ Some r
-  pub path : Path es r p
+  pub path : Path es (length es) r p
   pub root : IsRoot b r
 
 stands_path : (b : BlockRecord) → HasOwnNumbers b → (ns : List ℕ) → AreKnown b.values ns → (es : List (List ℕ)) → AreCopies b.values ns (length b.values) es → (n s : ℕ) → StandsFor b n s → (p : ℕ) → place_in ns n ≡ Some p
@@ -186,15 +79,15 @@ stands_path b own ns known es copies _ _ (copied v m s inside is first rest) p e
       r,
       record {
         place = h.place;
-        path = onward t p h.path ((copies.edge t p).1 (low, (v, at, (is, (m, names, et))))) (omega (arith, low, known.long, copies.size));
+        path = path_more es r t p h.path ((copies.edge t p).1 (low, (v, at, (is, (m, names, et))))) (omega (arith, low, known.long, copies.size));
         root = h.root;
       },
     )
 
 -- a place that paths lead to from one with a number has a number too
-path_number : (b : BlockRecord) (ns : List ℕ) (es : List (List ℕ)) → AreCopies b.values ns (length b.values) es → (r p : ℕ) → Path es r p → (n : ℕ) → place_in ns n ≡ Some p → (s : ℕ) × (place_in ns s ≡ Some r)
+path_number : (b : BlockRecord) (ns : List ℕ) (es : List (List ℕ)) → AreCopies b.values ns (length b.values) es → (r p : ℕ) → Path es (length es) r p → (n : ℕ) → place_in ns n ≡ Some p → (s : ℕ) × (place_in ns s ≡ Some r)
 path_number b ns es copies r _ (here within) n en = (n, en)
-path_number b ns es copies r _ (onward t p path edge within) n en =
+path_number b ns es copies r _ (onward t p path apart edge within) n en =
     let (low, (v, ev, (is, (m, names, em)))) = (copies.edge t p).0 edge in
     path_number b ns es copies r t path m em
 
@@ -210,32 +103,32 @@ one_edge b ns es copies p q r c d =
     let number : n ≡ k = same_Some n k (sym (copies_first_arg v n is nv) ∙ (ap (λ (w : ValueRecord). slice_get w.args 0) same ∙ copies_first_arg u k is' nu)) in
     same_Some p q (sym en ∙ (ap (place_in ns) number ∙ ek))
 
-last_step : (es : List (List ℕ)) (s p : ℕ) → Path es s p → (p ≡ s) ⊎ ((q : ℕ) × Path es s q × IsEdge es q p)
+last_step : (es : List (List ℕ)) (s p : ℕ) → Path es (length es) s p → (p ≡ s) ⊎ ((q : ℕ) × Path es (length es) s q × IsEdge es q p)
 last_step es s _ (here within) = inl refl
-last_step es s _ (onward q p path edge within) = inr (q, path, edge)
+last_step es s _ (onward q p path apart edge within) = inr (q, path, edge)
 
-one_root : (b : BlockRecord) (ns : List ℕ) (es : List (List ℕ)) → AreCopies b.values ns (length b.values) es → (r s p : ℕ) → IsRoot b r → IsRoot b s → Path es r p → Path es s p → r ≡ s
+one_root : (b : BlockRecord) (ns : List ℕ) (es : List (List ℕ)) → AreCopies b.values ns (length b.values) es → (r s p : ℕ) → IsRoot b r → IsRoot b s → Path es (length es) r p → Path es (length es) s p → r ≡ s
 one_root b ns es copies r s _ root start (here within) path' = ⊎_elim
     (λ (same : r ≡ s). same)
     (λ (q, path, edge). absurd (no_edge b ns es copies q r root edge))
     (last_step es s r path')
-one_root b ns es copies r s _ root start (onward q p path edge within) path' = ⊎_elim
+one_root b ns es copies r s _ root start (onward q p path apart edge within) path' = ⊎_elim
     (λ (same : p ≡ s). absurd (no_edge b ns es copies q s start (subst (λ (j : ℕ). IsEdge es q j) same edge)))
     (λ (t, front, edge').
-    one_root b ns es copies r s q root start path (subst (λ (j : ℕ). Path es s j) (sym (one_edge b ns es copies q t p edge edge')) front))
+    one_root b ns es copies r s q root start path (subst (λ (j : ℕ). Path es (length es) s j) (sym (one_edge b ns es copies q t p edge edge')) front))
     (last_step es s p path')
 
 pub roots_are : (b : BlockRecord) → HasOwnNumbers b → (ns : List ℕ) → AreKnown b.values ns → (es : List (List ℕ)) → AreCopies b.values ns (length b.values) es → (ls : List (Option ℕ)) (xs : List ℕ) (i : ℕ)
-    → Sown es (IsRoot b) i ls xs → length es ≤ i → AreRoots b ns ls
+    → Sown es (length es) (IsRoot b) i ls xs → length es ≤ i → AreRoots b ns ls
 roots_are b own ns known es copies ls xs i s over = record {
-  within = λ p r e. let (low, root, path) = s.from p r e in omega (arith, path_start es r p path, copies.size);
+  within = λ p r e. let (low, root, path) = s.from p r e in omega (arith, path_start es (length es) r p path, copies.size);
   sound = λ n p r en e.
       let (low, root, path) = s.from p r e in
       let (m, em) = path_number b ns es copies r p path n en in
       (m, em, path_stands b own ns known es copies r p path root n m en em);
   whole = λ n m p en stands.
       let (r, h) = stands_path b own ns known es copies n m stands p en in
-      let (l, e) = s.found r p (omega (arith, over, path_start es r p h.path)) h.root h.path in
+      let (l, e) = s.found r p (omega (arith, over, path_start es (length es) r p h.path)) h.root h.path in
       let (low, root, path) = s.from p l e in
       (r, h.place, e ∙ ap Some (sym (one_root b ns es copies r l p h.root root h.path path)));
 }

@@ -26,11 +26,11 @@ use Rattle.bk_func.specs.Form.States.{CopiesMemory, NamesAt}
 use Rattle.bk_func.specs.Form.Text.{HasBlock, IsPhi}
 use Rattle.bk_func.proofs.Faults.{In, filter-in, in-filter, first_fault-append, none_first, none_second, none_both, none_in}
 use Rattle.bk_func.proofs.Needs.{in_any, found_in}
+use Rattle.bk_places.proofs.Elements.{to_in, to_contains, in_either, in_right}
 use Rattle.bk_sched.specs.Order.{Checks, HasOwnNumbers, Loads, Names, Precedes, StandsFor, outside, itself, argument, right}
 use Rattle.bk_sched.specs.Schedule.{Scheduled}
 use Rattle.bk_sched.proofs.Agreeing.{NoCopies, borne, stands_same}
 use Rattle.bk_sched.proofs.Keeping.{keeps, all_scheduled, short}
-use Rattle.bk_sched.proofs.Lists.{to_in, to_contains, in_either, in_right}
 
 -- what a value does, by its origin
 loads : (o : Family) → is_load (origin_of o) ≡ true → (o ≡ op.Load) ⊎ (o ≡ op.Arm arm.Load) ⊎ (o ≡ op.Rv rv.Load)

@@ -7,14 +7,14 @@ use Rattle.std.proofs.lemmas.List.{length-map}
 use Rattle.std.proofs.lemmas.Option.{get_or_from_slice_get, slice_get-map, slice_get_within}
 use Rattle.bk_func.proofs.Faults.{In}
 use Rattle.bk_func.specs.Records.{ValueRecord, BlockRecord}
+use Rattle.bk_places.proofs.Elements.{at_contains, to_in, to_contains, in_either, in_left, in_right}
+use Rattle.bk_places.proofs.Leading.{leads_on}
+use Rattle.bk_places.specs.Search.{IsEdge, Leads, Path, here, onward}
 use Rattle.bk_sched.specs.Arranged.{IsOrder}
 use Rattle.bk_sched.specs.Order.{ComesBefore, Precedes, argument, checks, needed, right, state, unneeded, onward as further}
 use Rattle.bk_sched.specs.Schedule.{IsReady, IsSchedule, Scheduled, done as no_more, next as goes_on, rank_of}
-use Rattle.bk_sched.specs.Search.{IsEdge, Leads, Path, here, onward}
 use Rattle.bk_sched.specs.Turns.{IsFree, Turned, done, next}
-use Rattle.bk_sched.proofs.Arranging.{leads_on}
 use Rattle.bk_sched.proofs.Leaving.{range_all}
-use Rattle.bk_sched.proofs.Lists.{at_contains, to_in, to_contains, in_either, in_left, in_right}
 
 -- these values stand at these places
 abbrev pub At : BlockRecord → List ℕ → List ValueRecord → Type 0
@@ -66,9 +66,9 @@ abbrev pub Stays : List (List ℕ) → List ℕ → Type 0
 Stays es ps = (p q : ℕ) → In p ps → IsEdge es p q → In q ps
 
 -- the last edge of a way comes from a place of the list
-path_last : (es : List (List ℕ)) (ps : List ℕ) → Stays es ps → (s t : ℕ) → In s ps → IsEdge es s t → (q : ℕ) → Path es t q → In q ps × ((r : ℕ) × In r ps × IsEdge es r q)
+path_last : (es : List (List ℕ)) (ps : List ℕ) → Stays es ps → (s t : ℕ) → In s ps → IsEdge es s t → (q : ℕ) → Path es (length es) t q → In q ps × ((r : ℕ) × In r ps × IsEdge es r q)
 path_last es ps stays s t i edge _ (here within) = (stays s t i edge, (s, i, edge))
-path_last es ps stays s t i edge _ (onward r q path more within) = let (j, rest) = path_last es ps stays s t i edge r path in (stays r q j more, (r, j, more))
+path_last es ps stays s t i edge _ (onward r q path apart more within) = let (j, rest) = path_last es ps stays s t i edge r path in (stays r q j more, (r, j, more))
 
 leads_last : (es : List (List ℕ)) (ps : List ℕ) → Stays es ps → (p q : ℕ) → In p ps → Leads es p q → (r : ℕ) × In r ps × IsEdge es r q
 leads_last es ps stays p q i (t, edge, within, path) = (path_last es ps stays p t i edge q path).1

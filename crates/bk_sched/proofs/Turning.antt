@@ -15,9 +15,10 @@ use Rattle.std.proofs.lemmas.List.Elements.{Contains-get_or}
 use Rattle.std.proofs.lemmas.List.Sums.{sum_by-cons, sum_by_more, sum_by_more_le}
 use Rattle.bk_func.proofs.Faults.{In}
 use Rattle.bk_sched.specs.declared.turns.Turn.{Turn}
-use Rattle.bk_sched.specs.Search.{IsEdge, StaysWithin}
+use Rattle.bk_places.proofs.Elements.{to_in, to_contains, in_left, in_right, in_either}
+use Rattle.bk_sched.specs.Turns.{StaysWithin}
+use Rattle.bk_places.specs.Search.{IsEdge}
 use Rattle.bk_sched.specs.Turns.{AreReady, IsDue, IsFree, Released, Turned, done, next, count_in, has_turn, total_in, turn_cmp}
-use Rattle.bk_sched.proofs.Lists.{to_in, to_contains, in_left, in_right, in_either}
 use Rattle.bk_sched.proofs.Leaving.{behind, led_from, left_of, left_under, left_more, left_less, all_new, range_all, none_led, some_led, some_count, count_cut, cut, Cut}
 
 -- turns in their order

@@ -2,5 +2,4 @@ pub mod Arranged
 pub mod Named
 pub mod Order
 pub mod Schedule
-pub mod Search
 pub mod Turns

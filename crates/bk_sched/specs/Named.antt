@@ -1,30 +1,14 @@
 -- What numbers stand for and what values name, by places of numbers.
-use Rattle.std.specs.Prelude.{◌≡◌, ◌↔◌, ℕ, ◌<◌, ◌≤◌, ◌==◌, ◌++◌, ◌∷◌, List, [], length, position, true, Option, None, Some, MatchOption, slice_index_or, ◌⊎◌}
+use Rattle.std.specs.Prelude.{◌≡◌, ◌↔◌, ℕ, ◌<◌, ◌≤◌, ◌++◌, ◌∷◌, List, [], length, Option, None, Some, slice_index_or}
 use Rattle.std.specs.List.{Contains, slice_get}
 use Rattle.std.specs.Ordering.{nat_cmp}
 use Rattle.std.specs.BTreeMap.{get}
-use Rattle.bk_ops.specs.Families.{is_call_result}
 use Rattle.bk_func.specs.Records.{ValueRecord, BlockRecord}
-use Rattle.bk_func.specs.Form.States.{CopiesMemory, NamesAt}
+use Rattle.bk_func.specs.Form.States.{CopiesMemory}
+use Rattle.bk_places.specs.Named.{NamesBy, place_in}
 use Rattle.bk_sched.specs.declared.places.Places.{Places}
-use Rattle.bk_sched.specs.Search.{IsEdge}
+use Rattle.bk_places.specs.Search.{IsEdge}
 use Rattle.bk_sched.specs.Order.{Names, StandsFor}
-
--- the value names a state by its first argument
-abbrev pub NamesFirst : ValueRecord → Type 0
-NamesFirst v = CopiesMemory v ⊎ (is_call_result v.op.family ≡ true)
-
--- the number stands where the value names a state
-abbrev pub NamesBy : ValueRecord → ℕ → Type 0
-NamesBy v n = (k : ℕ) × NamesAt v k × (slice_get v.args k ≡ Some n)
-
--- that number, if there is one
-abbrev pub NamesIf : ValueRecord → Option ℕ → Type 0
-NamesIf v o = MatchOption o ((n : ℕ) → ¬ NamesBy v n) (λ n. (m : ℕ) → NamesBy v m ↔ (m ≡ n))
-
--- the first place of the number
-abbrev pub place_in : List ℕ → ℕ → Option ℕ
-place_in ns n = position (λ m. m == n) ns
 
 -- one more number, if there is one
 abbrev pub pushed : List ℕ → Option ℕ → List ℕ

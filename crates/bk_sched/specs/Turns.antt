@@ -1,11 +1,15 @@
 -- Places in turn: each after those from which edges lead to it, the least score first.
-use Rattle.std.specs.Prelude.{◌≡◌, ℕ, ◌<◌, ◌≤◌, ◌↔◌, ◌⊎◌, ◌==◌, Bool, true, List, [], ◌∷◌, ◌++◌, count_by, sum_by, slice_index}
+use Rattle.std.specs.Prelude.{◌≡◌, ℕ, ◌<◌, ◌≤◌, ◌↔◌, ◌⊎◌, ◌==◌, Bool, true, List, [], ◌∷◌, ◌++◌, count_by, sum_by, length, slice_index}
 use Rattle.std.specs.List.{Contains}
 use Rattle.std.specs.Ordering.{nat_cmp, ordering_then}
 use Rattle.std.specs.declared.cmp.Ordering.{Ordering}
 use Rattle.std.specs.BTreeSet.{BTreeSet, contains}
 use Rattle.bk_sched.specs.declared.turns.Turn.{Turn}
-use Rattle.bk_sched.specs.Search.{IsEdge}
+use Rattle.bk_places.specs.Search.{IsEdge}
+
+-- edges lead to places that are there
+abbrev pub StaysWithin : List (List ℕ) → Type 0
+StaysWithin es = (p q : ℕ) → IsEdge es p q → q < length es
 
 -- no edge leads to the place from those that are left
 abbrev pub IsFree : List (List ℕ) → List ℕ → ℕ → Type 0

@@ -1,7 +1,6 @@
 //! The order of values inside their block.
 #![tactic(auto)]
 
-mod edges;
 pub mod laws;
 mod listed;
 mod named;
@@ -9,7 +8,6 @@ mod order;
 mod own;
 mod places;
 mod score;
-mod search;
 mod turns;
 
 pub use bk_func::Memory;

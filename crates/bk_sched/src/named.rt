@@ -1,20 +1,18 @@
 // The states that values of a block name.
-ghost use Rattle.std.specs.Prelude.{◌≡◌, ◌↔◌, ℕ, IfOk, IsTrue, MatchOption, None, OnOk, Some, length, replicate, true};
+ghost use Rattle.std.specs.Prelude.{◌≡◌, ◌↔◌, ℕ, IfOk, IsTrue, None, OnOk, Some, length, replicate};
 ghost use Rattle.std.specs.List.{slice_get};
 ghost use Rattle.std.specs.Ordering.{nat_cmp};
 ghost use Rattle.std.specs.BTreeMap.{get};
-ghost use Rattle.bk_ops.specs.Table.{info_of};
 ghost use Rattle.bk_func.specs.Form.States.{CopiesMemory};
 ghost use Rattle.bk_func.specs.Records.{ValueRecord};
-ghost use Rattle.bk_sched.specs.Named.{AreCopies, AreNamed, ArePlaces, AreRoots, Copies, NamesFirst, NamesIf, NamesPlace, place_in};
+ghost use Rattle.bk_places.specs.Named.{NamesFirst, NamesIf, place_in};
+ghost use Rattle.bk_places.specs.Search.{Marks};
+ghost use Rattle.bk_sched.specs.Named.{AreCopies, AreNamed, ArePlaces, AreRoots, Copies, NamesPlace};
 ghost use Rattle.bk_sched.specs.Order.{HasOwnNumbers};
-ghost use Rattle.bk_sched.specs.Search.{Marks};
 
-use crate::edges::Edges;
 use crate::places::Places;
-use crate::search::Search;
 use bk_func::{Block, Value};
-use bk_ops::{Family, Ty, is_call_result, op_info};
+use bk_places::{Edges, Search, copies_memory, memory_argument};
 use std::alloc::{AllocError, Global};
 
 /// For each value the place of the number of the state that it names.
@@ -75,12 +73,13 @@ fn sow(
     requires none { search.old.labels.items ≡ replicate (length copies.now) None }
     ensures { OnOk result (AreRoots block.now places.now.numbers.items search.new.labels.items) }
 {
-    for place in 0..copies.len() {
+    let nowhere = copies.len();
+    for place in 0..nowhere {
         let is_copy = is_copy_at(block, place);
         if is_copy {
             continue;
         }
-        search.extend(copies, place, place)?;
+        search.extend(copies, nowhere, place, place)?;
     }
     Ok(())
 }
@@ -119,51 +118,4 @@ fn copied(places: &Places, value: &Value) -> Option<usize>
     let argument = memory_argument(value);
     let Some(id) = argument else { return None };
     places.place(id)
-}
-
-/// Whether the value is a copy of memory.
-fn copies_memory(value: &Value) -> bool
-    ensures { IsTrue result ↔ CopiesMemory value.now }
-{
-    match value.op.family {
-        Family::Copy => value.ty == Ty::Mem,
-        _ => false,
-    }
-}
-
-/// The number of the argument by which the value names a state.
-pub(crate) fn memory_argument(value: &Value) -> Option<u32>
-    ensures { NamesIf value.now result }
-{
-    let args = value.args.as_slice();
-    let count = args.len();
-    if names_first(value) {
-        let first = args.get(0).copied();
-        return first;
-    }
-    if !takes_memory(value) {
-        return None;
-    }
-    if count == 0 {
-        return None;
-    }
-    let last = args.get(count - 1).copied();
-    last
-}
-
-/// Whether the value names a state by its first argument: a copy of memory, or a result of a call.
-fn names_first(value: &Value) -> bool
-    ensures { IsTrue result ↔ NamesFirst value.now }
-{
-    match value.op.family {
-        Family::Copy => value.ty == Ty::Mem,
-        family => is_call_result(family),
-    }
-}
-
-/// Whether the op takes memory last.
-fn takes_memory(value: &Value) -> bool
-    ensures { IsTrue result ↔ ((info_of value.now.op).memory ≡ true) }
-{
-    op_info(value.op).memory
 }

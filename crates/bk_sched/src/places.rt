@@ -2,10 +2,11 @@
 ghost use Rattle.std.specs.Prelude.{◌≡◌, ℕ, IfOk, OnOk, map};
 ghost use Rattle.std.specs.Ordering.{nat_cmp};
 ghost use Rattle.std.specs.BTreeMap.{get};
-ghost use Rattle.bk_sched.specs.Named.{AreKnown, ArePlaces, place_in, pushed};
+ghost use Rattle.bk_places.specs.Named.{place_in};
+ghost use Rattle.bk_sched.specs.Named.{AreKnown, ArePlaces, pushed};
 
-use crate::named::memory_argument;
 use bk_func::{Block, Value};
+use bk_places::{first_places, memory_argument};
 use std::alloc::{AllocError, Global};
 use std::collections::BTreeMap;
 
@@ -62,17 +63,4 @@ fn push_number(numbers: &mut Vec<u32>, number: Option<u32>) -> Result<(), AllocE
     let Some(number) = number else { return Ok(()) };
     numbers.push(number)?;
     Ok(())
-}
-
-/// The first place of each number.
-fn first_places(alloc: Global, numbers: &[u32]) -> Result<BTreeMap<u32, usize>, AllocError>
-    ensures { IfOk result (λ places. (n : ℕ) → get nat_cmp places n ≡ place_in numbers.now n) }
-{
-    let mut places = BTreeMap::new(alloc);
-    for (place, number) in numbers.iter().enumerate() {
-        if places.get(number).is_none() {
-            places.insert(*number, place)?;
-        }
-    }
-    Ok(places)
 }

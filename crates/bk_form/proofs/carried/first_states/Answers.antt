@@ -1,12 +1,12 @@
 use Rattle.std.proofs.Common.{◌≡◌, ◌∙◌, sym, ap, subst, ℕ, List, Option, None, get_or, length}
 use Rattle.std.proofs.lemmas.Result.{IfOk-weaker}
+use Rattle.bk_places.proofs.Marking.{none_closed, none_unmarked}
+use Rattle.bk_places.specs.Search.{IsClosed, PathFrom}
 use Rattle.bk_form.specs.Carried.{AreOpen, AreIncoming, AreDiffering, unmarked}
 use Rattle.bk_form.specs.Names.{measure}
-use Rattle.bk_form.specs.Search.{IsClosed, PathFrom}
 use Rattle.bk_form.specs.Walks.{block_edges, IsRow}
 use Rattle.bk_form.proofs.Copied.{values_named}
 use Rattle.bk_form.proofs.FirstStates.{AreFlows, first_states_are}
-use Rattle.bk_form.proofs.Marking.{none_closed, none_unmarked}
 use Rattle.bk_form.proofs.Used.{are_named}
 use Rattle.bk_form.proofs.carried.first_states.Goals as goal
 

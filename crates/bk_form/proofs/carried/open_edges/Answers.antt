@@ -1,6 +1,6 @@
 use Rattle.std.proofs.Common.{◌∙◌, [], arith}
+use Rattle.bk_places.proofs.Filling.{filled_none, filled_more}
 use Rattle.bk_form.proofs.Carrying.{open_all}
-use Rattle.bk_form.proofs.Filling.{filled_none, filled_more}
 use Rattle.bk_form.proofs.carried.open_edges.Goals as goal
 
 pub loop-at-init : goal.loop-at-init

@@ -1,7 +1,7 @@
 use Rattle.std.proofs.Common.{◌≡◌, ℕ, [], List, cond, get_or}
 use Rattle.std.specs.List.{slice_get}
+use Rattle.bk_places.proofs.Filling.{Filled}
 use Rattle.bk_form.specs.Carried.{is_open}
-use Rattle.bk_form.proofs.Filling.{Filled}
 use Rattle.bk_form.proofs.carried.open_edges.Given as goal
 
 abbrev pub invariant-loop-at : goal.invariant-loop-at

@@ -1,7 +1,7 @@
 use Rattle.std.proofs.Common.{◌∙◌, ap, None, get_or, arith}
+use Rattle.bk_places.proofs.Filling.{filled_none, filled_more}
 use Rattle.bk_form.specs.Carried.{unmarked}
 use Rattle.bk_form.proofs.Carrying.{unmarked_all}
-use Rattle.bk_form.proofs.Filling.{filled_none, filled_more}
 use Rattle.bk_form.proofs.carried.states_of.Goals as goal
 
 pub loop-place-init : goal.loop-place-init

@@ -1,6 +1,6 @@
 use Rattle.std.proofs.Common.{◌≡◌, ℕ, Option, None, get_or}
+use Rattle.bk_places.proofs.Filling.{Filled}
 use Rattle.bk_form.specs.Carried.{unmarked}
-use Rattle.bk_form.proofs.Filling.{Filled}
 use Rattle.bk_form.proofs.carried.states_of.Given as goal
 
 abbrev pub invariant-loop-place : goal.invariant-loop-place

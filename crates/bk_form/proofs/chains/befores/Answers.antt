@@ -1,5 +1,5 @@
 use Rattle.std.proofs.Common.{None, arith}
-use Rattle.bk_form.proofs.Filling.{filled_none, filled_more}
+use Rattle.bk_places.proofs.Filling.{filled_none, filled_more}
 use Rattle.bk_form.proofs.Homes.{befores_all}
 use Rattle.bk_form.proofs.chains.befores.Goals as goal
 

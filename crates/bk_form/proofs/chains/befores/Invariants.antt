@@ -1,6 +1,6 @@
 use Rattle.std.proofs.Common.{◌≡◌, ◌↔◌, ℕ, Option, None, Some}
+use Rattle.bk_places.proofs.Filling.{Filled}
 use Rattle.bk_form.specs.Chains.{IsBefore}
-use Rattle.bk_form.proofs.Filling.{Filled}
 use Rattle.bk_form.proofs.chains.befores.Given as goal
 
 abbrev pub invariant-loop-place : goal.invariant-loop-place

@@ -1,11 +1,11 @@
 use Rattle.std.proofs.Common.{◌≡◌, ◌∙◌, ap, ◌<◌, length, arith}
+use Rattle.bk_places.proofs.Elements.{at_contains}
+use Rattle.bk_places.proofs.Filling.{filled_none, filled_more}
 use Rattle.bk_form.specs.Names.{measure}
 use Rattle.bk_form.specs.declared.chains.Chain.TheVariants.{Empty}
 use Rattle.bk_form.proofs.ChainNumbers.{ArePlaces, IsPlaceIn, chain_of, one_chain, members_are, members_close, members_within}
 use Rattle.bk_form.proofs.Copied.{values_named}
-use Rattle.bk_form.proofs.Filling.{filled_none, filled_more}
 use Rattle.bk_form.proofs.Homes.{chains_all}
-use Rattle.bk_form.proofs.Standing.{at_contains}
 use Rattle.bk_form.proofs.chains.chains.Goals as goal
 
 pub loop-at-init : goal.loop-at-init

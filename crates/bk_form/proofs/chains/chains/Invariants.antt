@@ -1,10 +1,10 @@
 use Rattle.std.proofs.Common.{◌≡◌, ℕ, Some}
 use Rattle.std.specs.List.{slice_get}
 use Rattle.bk_func.specs.Records.{BlockRecord}
+use Rattle.bk_places.proofs.Filling.{Filled}
 use Rattle.bk_form.specs.Chains.{IsChainOf}
 use Rattle.bk_form.specs.declared.chains.Chain.{Chain}
 use Rattle.bk_form.specs.declared.chains.Chain.TheVariants.{Empty}
-use Rattle.bk_form.proofs.Filling.{Filled}
 use Rattle.bk_form.proofs.chains.chains.Given as goal
 
 abbrev pub invariant-loop-at : goal.invariant-loop-at

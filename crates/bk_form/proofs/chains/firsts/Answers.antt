@@ -1,6 +1,7 @@
 use Rattle.std.proofs.Common.{◌≡◌, ◌∙◌, sym, ap, subst, ℕ, get_or, replicate, Option, None, arith}
+use Rattle.bk_places.proofs.Sowing.{Sown, sown_first, sown_more, sown_past}
 use Rattle.bk_form.proofs.Homes.{none_is, not_none}
-use Rattle.bk_form.proofs.Sowing.{Sown, sown_first, sown_more, sown_past, sown_all}
+use Rattle.bk_form.proofs.Sowing.{sown_all}
 use Rattle.bk_form.proofs.chains.firsts.Goals as goal
 
 pub loop-place-init : goal.loop-place-init

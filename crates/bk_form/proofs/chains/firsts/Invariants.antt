@@ -1,5 +1,5 @@
 use Rattle.std.proofs.Common.{◌≡◌, ℕ, get_or, None}
-use Rattle.bk_form.proofs.Sowing.{Sown}
+use Rattle.bk_places.proofs.Sowing.{Sown}
 use Rattle.bk_form.proofs.chains.firsts.Given as goal
 
 abbrev pub invariant-loop-place : goal.invariant-loop-place

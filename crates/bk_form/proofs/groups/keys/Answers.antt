@@ -1,9 +1,8 @@
 use Rattle.std.proofs.Common.{◌≡◌, ◌∙◌, sym, ap, length, get_or, None, arith}
 use Rattle.std.proofs.lemmas.Option.{same_Some, slice_get_within}
+use Rattle.bk_places.proofs.Filling.{filled_more, item_at}
 use Rattle.bk_form.specs.Groups.{key_of}
 use Rattle.bk_form.specs.Places.{NodeRecord, nodes_of}
-use Rattle.bk_form.proofs.Filling.{filled_more}
-use Rattle.bk_form.proofs.Flowing.{item_at}
 use Rattle.bk_form.proofs.groups.keys.Goals as goal
 
 pub loop-place-preserved : goal.loop-place-preserved

@@ -1,8 +1,8 @@
 use Rattle.std.proofs.Common.{◌≡◌, get_or, None, Some, ℕ, Option}
 use Rattle.std.specs.List.{slice_get}
+use Rattle.bk_places.proofs.Filling.{Filled}
 use Rattle.bk_form.specs.Groups.{key_of}
 use Rattle.bk_form.specs.Places.{NodeRecord, nodes_of}
-use Rattle.bk_form.proofs.Filling.{Filled}
 use Rattle.bk_form.proofs.groups.keys.Given as goal
 
 abbrev pub invariant-loop-place : goal.invariant-loop-place

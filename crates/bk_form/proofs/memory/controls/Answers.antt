@@ -2,8 +2,8 @@ use Rattle.std.proofs.Common.{◌≡◌, ◌∙◌, sym, ap, length, None, arith
 use Rattle.std.specs.Option.{option_and_then}
 use Rattle.std.proofs.lemmas.Option.{same_Some}
 use Rattle.bk_func.specs.Records.{BlockRecord}
+use Rattle.bk_places.proofs.Filling.{filled_none, filled_more}
 use Rattle.bk_form.specs.Numbers.{value_ids, sole}
-use Rattle.bk_form.proofs.Filling.{filled_none, filled_more}
 use Rattle.bk_form.proofs.Flowing.{block_at}
 use Rattle.bk_form.proofs.Remembered.{controls_all}
 use Rattle.bk_form.proofs.memory.controls.Goals as goal

@@ -2,8 +2,8 @@ use Rattle.std.proofs.Common.{◌≡◌, ℕ, Option, None, Some}
 use Rattle.std.specs.List.{slice_get}
 use Rattle.std.specs.Option.{option_and_then}
 use Rattle.bk_func.specs.Records.{BlockRecord}
+use Rattle.bk_places.proofs.Filling.{Filled}
 use Rattle.bk_form.specs.Numbers.{value_ids, sole}
-use Rattle.bk_form.proofs.Filling.{Filled}
 use Rattle.bk_form.proofs.memory.controls.Given as goal
 
 abbrev pub invariant-loop-block : goal.invariant-loop-block

@@ -1,4 +1,4 @@
-use Rattle.bk_form.specs.Naming.{NamesBy}
+use Rattle.bk_places.specs.Named.{NamesBy}
 use Rattle.bk_form.proofs.Remembered.{some_is}
 use Rattle.bk_form.proofs.memory.names_some.Goals as goal
 

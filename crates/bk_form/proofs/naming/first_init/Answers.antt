@@ -1,7 +1,7 @@
 use Rattle.std.proofs.Common.{◌∙◌, sym, ap}
 use Rattle.std.specs.List.{slice_get}
 use Rattle.std.specs.Option.{option_copied}
-use Rattle.bk_form.proofs.Lists.{lent}
+use Rattle.bk_places.proofs.Elements.{lent}
 use Rattle.bk_form.proofs.StateNames.{first_found, none_first, nothing_is}
 use Rattle.bk_form.proofs.naming.first_init.Goals as goal
 

@@ -1,9 +1,8 @@
 use Rattle.std.proofs.Common.{◌≡◌, ◌∙◌, ap, length, None, arith}
+use Rattle.bk_places.proofs.Filling.{filled_none, filled_more, item_at}
 use Rattle.bk_form.specs.Names.{measure}
 use Rattle.bk_form.specs.Places.{nodes_of}
 use Rattle.bk_form.proofs.Copied.{values_named}
-use Rattle.bk_form.proofs.Filling.{filled_none, filled_more}
-use Rattle.bk_form.proofs.Flowing.{item_at}
 use Rattle.bk_form.proofs.Homes.{home_is, homes_all}
 use Rattle.bk_form.proofs.naming.homes.Goals as goal
 

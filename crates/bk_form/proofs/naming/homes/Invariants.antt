@@ -1,6 +1,6 @@
 use Rattle.std.proofs.Common.{◌≡◌, ◌↔◌, ℕ, Option, None, Some}
+use Rattle.bk_places.proofs.Filling.{Filled}
 use Rattle.bk_form.specs.Chains.{IsStateAt}
-use Rattle.bk_form.proofs.Filling.{Filled}
 use Rattle.bk_form.proofs.naming.homes.Given as goal
 
 abbrev pub invariant-loop-node : goal.invariant-loop-node

@@ -1,7 +1,7 @@
 use Rattle.std.proofs.Common.{◌∙◌, sym, ap}
 use Rattle.std.proofs.lemmas.Bool.{false≢true}
+use Rattle.bk_places.proofs.Filling.{item_at}
 use Rattle.bk_form.proofs.Finding.{holds_in, holds_more}
-use Rattle.bk_form.proofs.Flowing.{item_at}
 use Rattle.bk_form.proofs.naming.init_in.Goals as goal
 
 pub returns-then-is_init : goal.returns-then-is_init

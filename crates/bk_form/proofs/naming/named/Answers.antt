@@ -1,10 +1,10 @@
 use Rattle.std.proofs.Common.{◌∙◌, sym, ap, None, Option, ℕ}
 use Rattle.std.specs.Option.{unwrap_or}
 use Rattle.std.proofs.lemmas.Option.{unwrap_or-slice_get}
+use Rattle.bk_places.proofs.Elements.{lent, none_says, some_says}
 use Rattle.bk_form.specs.Names.{measure}
 use Rattle.bk_form.proofs.Copied.{values_named}
-use Rattle.bk_form.proofs.Lists.{lent}
-use Rattle.bk_form.proofs.StateNames.{names_nothing, names_somewhere, names_root, none_says, some_says}
+use Rattle.bk_form.proofs.StateNames.{names_nothing, names_somewhere, names_root}
 use Rattle.bk_form.proofs.Used.{nothing_found}
 use Rattle.bk_form.proofs.naming.named.Goals as goal
 

@@ -2,11 +2,10 @@ use Rattle.std.proofs.Common.{◌≡◌, ◌∙◌, sym, ap, subst, length, None
 use Rattle.std.proofs.lemmas.Option.{same_Some}
 use Rattle.bk_func.specs.Records.{ValueRecord}
 use Rattle.bk_func.specs.Form.Text.{HasValue}
+use Rattle.bk_places.proofs.Filling.{filled_none, filled_more, item_at}
 use Rattle.bk_form.specs.Naming.{NamesIf}
 use Rattle.bk_form.specs.Places.{NodeRecord, nodes_of}
 use Rattle.bk_form.proofs.Copied.{stands_at}
-use Rattle.bk_form.proofs.Filling.{filled_none, filled_more}
-use Rattle.bk_form.proofs.Flowing.{item_at}
 use Rattle.bk_form.proofs.Homes.{names_all}
 use Rattle.bk_form.proofs.naming.names.Goals as goal
 

@@ -1,8 +1,8 @@
 use Rattle.std.proofs.Common.{◌≡◌, ℕ, Option, None, Some}
 use Rattle.std.specs.List.{slice_get}
+use Rattle.bk_places.proofs.Filling.{Filled}
 use Rattle.bk_form.specs.Naming.{NamesIf}
 use Rattle.bk_form.specs.Places.{NodeRecord, nodes_of}
-use Rattle.bk_form.proofs.Filling.{Filled}
 use Rattle.bk_form.proofs.naming.names.Given as goal
 
 abbrev pub invariant-loop-node : goal.invariant-loop-node

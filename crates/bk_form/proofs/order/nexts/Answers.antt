@@ -1,8 +1,8 @@
 use Rattle.std.proofs.Common.{◌≡◌, ◌∙◌, sym, subst, Bool, List, length, arith}
 use Rattle.std.proofs.lemmas.Result.{IfOk-weaker}
+use Rattle.bk_places.proofs.Filling.{filled_more}
 use Rattle.bk_form.specs.Arranged.{IsNextAt}
 use Rattle.bk_form.specs.Groups.{ArePicked}
-use Rattle.bk_form.proofs.Filling.{filled_more}
 use Rattle.bk_form.proofs.Grouping.{listed_of, picked_all, next_is}
 use Rattle.bk_form.proofs.order.nexts.Goals as goal
 

@@ -1,8 +1,8 @@
 use Rattle.std.proofs.Common.{◌≡◌, ◌↔◌, ℕ, Bool, true, false, Some}
 use Rattle.std.specs.List.{slice_get}
+use Rattle.bk_places.proofs.Filling.{Filled}
 use Rattle.bk_form.specs.Arranged.{IsNextAt}
 use Rattle.bk_form.specs.Places.{NodeRecord, nodes_of}
-use Rattle.bk_form.proofs.Filling.{Filled}
 use Rattle.bk_form.proofs.order.nexts.Given as goal
 
 abbrev pub invariant-loop-home : goal.invariant-loop-home

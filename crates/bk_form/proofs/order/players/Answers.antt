@@ -2,11 +2,11 @@ use Rattle.std.proofs.Common.{◌≡◌, ◌∙◌, ◌↔◌, sym, ap, subst, B
 use Rattle.std.proofs.lemmas.Option.{same_Some}
 use Rattle.std.proofs.lemmas.Result.{IfOk-weaker}
 use Rattle.bk_func.specs.Records.{ValueRecord}
-use Rattle.bk_form.specs.Arranged.{HasRole, PlaysAt}
+use Rattle.bk_places.proofs.Filling.{filled_more, item_at}
+use Rattle.bk_places.specs.Order.{HasRole}
+use Rattle.bk_form.specs.Arranged.{PlaysAt}
 use Rattle.bk_form.specs.Groups.{ArePicked}
 use Rattle.bk_form.specs.Places.{NodeRecord}
-use Rattle.bk_form.proofs.Filling.{filled_more}
-use Rattle.bk_form.proofs.Flowing.{item_at}
 use Rattle.bk_form.proofs.Grouping.{listed_of, picked_all}
 use Rattle.bk_form.proofs.order.players.Goals as goal
 

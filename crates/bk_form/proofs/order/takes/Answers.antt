@@ -1,12 +1,11 @@
 use Rattle.std.proofs.Common.{◌≡◌, ◌∙◌, ◌↔◌, sym, ap, subst, ℕ, length, arith}
 use Rattle.std.specs.List.{Contains}
 use Rattle.std.proofs.lemmas.Option.{same_Some}
+use Rattle.bk_places.proofs.Elements.{contains_at}
+use Rattle.bk_places.proofs.Filling.{filled_more, item_at}
 use Rattle.bk_form.specs.Arranged.{TakesTo}
 use Rattle.bk_form.specs.Places.{NodeRecord, nodes_of}
-use Rattle.bk_form.proofs.Filling.{filled_more}
-use Rattle.bk_form.proofs.Flowing.{item_at}
 use Rattle.bk_form.proofs.Placing.{takes_all}
-use Rattle.bk_form.proofs.Standing.{contains_at}
 use Rattle.bk_form.proofs.order.takes.Goals as goal
 
 pub taken-requires-clause-node : goal.taken-requires-clause-node

@@ -1,8 +1,8 @@
 use Rattle.std.proofs.Common.{◌≡◌, ◌↔◌, ℕ, List, [], Some}
 use Rattle.std.specs.List.{Contains, slice_get}
+use Rattle.bk_places.proofs.Filling.{Filled}
 use Rattle.bk_form.specs.Arranged.{TakesTo}
 use Rattle.bk_form.specs.Places.{NodeRecord, nodes_of}
-use Rattle.bk_form.proofs.Filling.{Filled}
 use Rattle.bk_form.proofs.order.takes.Given as goal
 
 abbrev pub invariant-loop-node : goal.invariant-loop-node

@@ -1,10 +1,10 @@
 use Rattle.std.proofs.Common.{◌≡◌, ◌∙◌, sym, ap, subst, ℕ, ◌+◌, ◌↔◌, List, length, arith}
 use Rattle.std.specs.Option.{MatchOption}
 use Rattle.bk_func.specs.Records.{ValueRecord}
+use Rattle.bk_places.proofs.Filling.{item_at}
 use Rattle.bk_form.specs.Places.{NodeRecord}
 use Rattle.bk_form.specs.Roots.{AreCopies, Copies}
 use Rattle.bk_form.proofs.Copied.{copies_first, copies_more}
-use Rattle.bk_form.proofs.Flowing.{item_at}
 use Rattle.bk_form.proofs.roots.copies.Goals as goal
 
 pub loop-place-init : goal.loop-place-init

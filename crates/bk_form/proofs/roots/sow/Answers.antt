@@ -2,11 +2,11 @@ use Rattle.std.proofs.Common.{◌≡◌, ◌∙◌, sym, ap, subst, ℕ, length,
 use Rattle.std.proofs.lemmas.Bool.{false≢true}
 use Rattle.std.proofs.lemmas.Option.{same_Some}
 use Rattle.bk_func.specs.Form.States.{CopiesMemory}
+use Rattle.bk_places.proofs.Filling.{item_at}
+use Rattle.bk_places.proofs.Sowing.{Sown, sown_first, sown_more, sown_past}
 use Rattle.bk_form.specs.Names.{measure}
 use Rattle.bk_form.specs.Places.{NodeRecord, nodes_of}
 use Rattle.bk_form.proofs.Copied.{IsRoot, values_named, roots_are}
-use Rattle.bk_form.proofs.Flowing.{item_at}
-use Rattle.bk_form.proofs.Sowing.{Sown, sown_first, sown_more, sown_past}
 use Rattle.bk_form.proofs.roots.sow.Goals as goal
 
 pub loop-place-init : goal.loop-place-init

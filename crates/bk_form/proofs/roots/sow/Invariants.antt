@@ -1,5 +1,5 @@
+use Rattle.bk_places.proofs.Sowing.{Sown}
 use Rattle.bk_form.proofs.Copied.{IsRoot}
-use Rattle.bk_form.proofs.Sowing.{Sown}
 use Rattle.bk_form.proofs.roots.sow.Given as goal
 
 abbrev pub invariant-loop-place : goal.invariant-loop-place

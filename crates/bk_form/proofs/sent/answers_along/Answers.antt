@@ -3,14 +3,14 @@ use Rattle.std.specs.Option.{option_map}
 use Rattle.bk_ops.specs.Families.{is_word_call}
 use Rattle.bk_func.specs.Records.{ValueRecord, SigRecord}
 use Rattle.bk_func.specs.Form.Signatures.{sig_of}
+use Rattle.bk_places.proofs.Elements.{contains_at}
+use Rattle.bk_places.proofs.Filling.{item_at}
 use Rattle.bk_form.specs.Names.{measure, seen_callee}
 use Rattle.bk_form.specs.Places.{NodeRecord, nodes_of}
 use Rattle.bk_form.specs.Sent.{Passes}
 use Rattle.bk_form.proofs.Copied.{values_named}
-use Rattle.bk_form.proofs.Flowing.{item_at}
 use Rattle.bk_form.proofs.Noting.{answers_none, asked_more}
 use Rattle.bk_form.proofs.Sending.{answered_all, call_for}
-use Rattle.bk_form.proofs.Standing.{contains_at}
 use Rattle.bk_form.proofs.sent.answers_along.Goals as goal
 
 pub loop-node-init : goal.loop-node-init

@@ -1,6 +1,7 @@
 use Rattle.std.proofs.Common.{length}
+use Rattle.bk_places.specs.Search.{IsClear}
 use Rattle.bk_form.specs.Names.{measure}
-use Rattle.bk_form.specs.Sent.{Passes, IsReachedBy, AreAnswers, IsClear}
+use Rattle.bk_form.specs.Sent.{Passes, IsReachedBy, AreAnswers}
 use Rattle.bk_form.proofs.sent.answers_along.Given as goal
 
 abbrev pub invariant-loop-node : goal.invariant-loop-node

@@ -4,10 +4,10 @@ use Rattle.std.specs.Option.{option_map}
 use Rattle.std.proofs.lemmas.List.{length-replicate}
 use Rattle.std.proofs.lemmas.Option.{none-some}
 use Rattle.bk_func.specs.Records.{SigRecord}
+use Rattle.bk_places.proofs.Marking.{none_closed}
+use Rattle.bk_places.specs.Search.{Path, IsClosed}
 use Rattle.bk_form.specs.Names.{measure, seen_callee}
-use Rattle.bk_form.specs.Search.{Path, IsClosed}
 use Rattle.bk_form.specs.Sent.{Passes, IsFoundFrom}
-use Rattle.bk_form.proofs.Marking.{none_closed}
 use Rattle.bk_form.proofs.Noting.{reached_by}
 use Rattle.bk_form.proofs.Sending.{asked_none, asked_nowhere, asked_one, found_from, nothing_there}
 use Rattle.bk_form.proofs.Tables.{through}

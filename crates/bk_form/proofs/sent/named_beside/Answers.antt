@@ -2,13 +2,12 @@ use Rattle.std.proofs.Common.{◌∙◌, sym, ap, subst, ℕ, Option}
 use Rattle.std.proofs.lemmas.Bool.{false≢true}
 use Rattle.bk_func.specs.Form.Text.{HasValue}
 use Rattle.bk_func.specs.Records.{ValueRecord}
+use Rattle.bk_places.proofs.Elements.{at_contains, none_says}
 use Rattle.bk_form.specs.Names.{measure}
 use Rattle.bk_form.specs.Naming.{NamesIf}
 use Rattle.bk_form.specs.Places.{NodeRecord, nodes_of}
 use Rattle.bk_form.proofs.Copied.{values_named, stands_at}
 use Rattle.bk_form.proofs.Sending.{leads_nowhere, leads_there, leads_away}
-use Rattle.bk_form.proofs.Standing.{at_contains}
-use Rattle.bk_form.proofs.StateNames.{none_says}
 use Rattle.bk_form.proofs.Used.{nothing_found}
 use Rattle.bk_form.proofs.sent.named_beside.Goals as goal
 

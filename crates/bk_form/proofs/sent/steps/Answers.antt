@@ -1,9 +1,9 @@
 use Rattle.std.proofs.Common.{◌≡◌, ◌∙◌, ◌+◌, sym, ap, subst, ℕ, List, length, arith}
+use Rattle.bk_places.proofs.Elements.{contains_at}
+use Rattle.bk_places.proofs.Filling.{item_at}
 use Rattle.bk_form.specs.Places.{nodes_of}
 use Rattle.bk_form.specs.Sent.{AreSteps}
-use Rattle.bk_form.proofs.Flowing.{item_at}
 use Rattle.bk_form.proofs.Sending.{steps_none, steps_more}
-use Rattle.bk_form.proofs.Standing.{contains_at}
 use Rattle.bk_form.proofs.sent.steps.Goals as goal
 
 pub step-requires-clause-node : goal.step-requires-clause-node

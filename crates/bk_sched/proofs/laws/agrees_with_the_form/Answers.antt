@@ -1,8 +1,8 @@
 use Rattle.std.proofs.Common.{◌∙◌, ◌==◌, ap}
 use Rattle.std.specs.Prelude.{count_by}
+use Rattle.bk_places.proofs.Elements.{to_contains}
 use Rattle.bk_sched.proofs.Agreeing.{form_precedes, no_round, precedes_form}
 use Rattle.bk_sched.proofs.Keeping.{counts}
-use Rattle.bk_sched.proofs.Lists.{to_contains}
 use Rattle.bk_sched.proofs.laws.agrees_with_the_form.Goals as goal
 
 pub returns-clause-order : goal.returns-clause-order

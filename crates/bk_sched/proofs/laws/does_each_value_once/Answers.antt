@@ -1,7 +1,7 @@
 use Rattle.std.proofs.Common.{◌∙◌, ◌==◌, ap}
 use Rattle.std.specs.Prelude.{count_by}
+use Rattle.bk_places.proofs.Elements.{to_contains}
 use Rattle.bk_sched.proofs.Keeping.{counts}
-use Rattle.bk_sched.proofs.Lists.{to_contains}
 use Rattle.bk_sched.proofs.laws.does_each_value_once.Goals as goal
 
 pub returns : goal.returns

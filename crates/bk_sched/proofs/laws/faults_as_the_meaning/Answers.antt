@@ -1,9 +1,9 @@
 use Rattle.std.proofs.Common.{refl}
 use Rattle.bk_func.specs.Meaning.{first_fault}
 use Rattle.bk_func.specs.Effects.{order}
+use Rattle.bk_places.proofs.Elements.{to_contains}
 use Rattle.bk_sched.proofs.Agreeing.{no_round, own_numbers}
 use Rattle.bk_sched.proofs.Ending.{same_end}
-use Rattle.bk_sched.proofs.Lists.{to_contains}
 use Rattle.bk_sched.proofs.laws.faults_as_the_meaning.Goals as goal
 
 pub returns : goal.returns

@@ -1,5 +1,5 @@
+use Rattle.bk_places.proofs.Elements.{to_contains, to_in}
 use Rattle.bk_sched.proofs.Keeping.{in_scheduled, keeps}
-use Rattle.bk_sched.proofs.Lists.{to_contains, to_in}
 use Rattle.bk_sched.proofs.laws.keeps_the_order.Goals as goal
 
 pub returns-clause-own : goal.returns-clause-own

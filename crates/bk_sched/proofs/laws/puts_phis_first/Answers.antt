@@ -1,5 +1,5 @@
+use Rattle.bk_places.proofs.Elements.{to_in}
 use Rattle.bk_sched.proofs.Agreeing.{phis}
-use Rattle.bk_sched.proofs.Lists.{to_in}
 use Rattle.bk_sched.proofs.laws.puts_phis_first.Goals as goal
 
 pub returns : goal.returns

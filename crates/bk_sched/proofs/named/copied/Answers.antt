@@ -1,4 +1,4 @@
-use Rattle.bk_sched.proofs.Lists.{none_says, nothing_found, some_says}
+use Rattle.bk_places.proofs.Elements.{none_says, nothing_found, some_says}
 use Rattle.bk_sched.proofs.Naming.{copies_nothing, copies_place}
 use Rattle.bk_sched.proofs.named.copied.Goals as goal
 

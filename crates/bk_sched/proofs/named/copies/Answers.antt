@@ -1,6 +1,6 @@
 use Rattle.std.proofs.Common.{rules, ◌≡◌, ◌∙◌, sym, ap, subst, ℕ, ◌+◌, List, length, arith}
+use Rattle.bk_places.proofs.Filling.{item_at}
 use Rattle.bk_sched.specs.Named.{AreCopies}
-use Rattle.bk_sched.proofs.Listing.{item_at}
 use Rattle.bk_sched.proofs.Naming.{copies_none, copies_more}
 use Rattle.bk_sched.proofs.named.copies.Goals as goal
 

@@ -1,7 +1,7 @@
 use Rattle.std.proofs.Common.{◌∙◌, sym, ap, None, Option, ℕ}
 use Rattle.std.specs.Option.{unwrap_or}
 use Rattle.std.proofs.lemmas.Option.{unwrap_or-slice_get}
-use Rattle.bk_sched.proofs.Lists.{lent, none_says, nothing_found, some_says}
+use Rattle.bk_places.proofs.Elements.{lent, none_says, nothing_found, some_says}
 use Rattle.bk_sched.proofs.Naming.{names_nothing, names_nowhere, names_root}
 use Rattle.bk_sched.proofs.named.named.Goals as goal
 

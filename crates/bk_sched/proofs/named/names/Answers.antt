@@ -1,8 +1,8 @@
 use Rattle.std.proofs.Common.{◌≡◌, ◌∙◌, sym, ap, subst, ℕ, List, length, Option, None, arith}
 use Rattle.std.proofs.lemmas.Option.{same_Some}
 use Rattle.bk_func.specs.Records.{ValueRecord}
+use Rattle.bk_places.proofs.Filling.{filled_none, filled_more, item_at}
 use Rattle.bk_sched.specs.Named.{NamesPlace}
-use Rattle.bk_sched.proofs.Listing.{filled_none, filled_more, item_at}
 use Rattle.bk_sched.proofs.Naming.{named_all}
 use Rattle.bk_sched.proofs.named.names.Goals as goal
 

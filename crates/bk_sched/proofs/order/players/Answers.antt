@@ -3,9 +3,9 @@ use Rattle.std.specs.List.{slice_get}
 use Rattle.std.proofs.lemmas.Option.{same_Some}
 use Rattle.std.proofs.lemmas.Result.{IfOk-weaker}
 use Rattle.bk_func.specs.Records.{ValueRecord}
-use Rattle.bk_sched.specs.Arranged.{HasRole}
+use Rattle.bk_places.proofs.Filling.{Filled, filled_more, item_at}
+use Rattle.bk_places.specs.Order.{HasRole}
 use Rattle.bk_sched.proofs.Grouping.{listed_of}
-use Rattle.bk_sched.proofs.Listing.{Filled, filled_more, item_at}
 use Rattle.bk_sched.proofs.order.players.Goals as goal
 
 pub loop-value-preserved : goal.loop-value-preserved

@@ -1,8 +1,8 @@
 use Rattle.std.proofs.Common.{◌≡◌, ◌↔◌, ℕ, Bool, true, false, Some}
 use Rattle.std.specs.List.{slice_get}
 use Rattle.bk_func.specs.Records.{ValueRecord}
-use Rattle.bk_sched.specs.Arranged.{HasRole}
-use Rattle.bk_sched.proofs.Listing.{Filled}
+use Rattle.bk_places.proofs.Filling.{Filled}
+use Rattle.bk_places.specs.Order.{HasRole}
 use Rattle.bk_sched.proofs.order.players.Given as goal
 
 abbrev pub invariant-loop-value : goal.invariant-loop-value

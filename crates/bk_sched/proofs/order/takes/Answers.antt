@@ -2,7 +2,7 @@ use Rattle.std.proofs.Common.{rules, ◌≡◌, ◌∙◌, ◌↔◌, sym, ap, s
 use Rattle.std.specs.List.{Contains, slice_get}
 use Rattle.std.proofs.lemmas.Option.{same_Some}
 use Rattle.bk_func.specs.Records.{ValueRecord}
-use Rattle.bk_sched.proofs.Listing.{Filled, filled_more, item_at}
+use Rattle.bk_places.proofs.Filling.{Filled, filled_more, item_at}
 use Rattle.bk_sched.proofs.Placing.{Takes, takes_all}
 use Rattle.bk_sched.proofs.order.takes.Goals as goal
 

@@ -1,7 +1,7 @@
 use Rattle.std.proofs.Common.{◌≡◌, ◌↔◌, ℕ, List, [], Some}
 use Rattle.std.specs.List.{Contains, slice_get}
 use Rattle.bk_func.specs.Records.{ValueRecord}
-use Rattle.bk_sched.proofs.Listing.{Filled}
+use Rattle.bk_places.proofs.Filling.{Filled}
 use Rattle.bk_sched.proofs.Placing.{Takes}
 use Rattle.bk_sched.proofs.order.takes.Given as goal
 

@@ -1,7 +1,7 @@
 use Rattle.std.proofs.Common.{◌≡◌, ◌∙◌, sym, refl, ap, length, arith}
 use Rattle.std.proofs.lemmas.Bool.{false≢true}
-use Rattle.bk_sched.specs.Named.{place_in}
-use Rattle.bk_sched.proofs.Listing.{item_at}
+use Rattle.bk_places.proofs.Filling.{item_at}
+use Rattle.bk_places.specs.Named.{place_in}
 use Rattle.bk_sched.proofs.Placing.{own_more, own_all, not_own}
 use Rattle.bk_sched.proofs.own.are_own.Goals as goal
 

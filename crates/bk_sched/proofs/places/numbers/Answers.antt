@@ -1,6 +1,6 @@
 use Rattle.std.proofs.Common.{rules, ◌≡◌, ◌∙◌, sym, ap, length, map, arith}
 use Rattle.bk_func.specs.Records.{ValueRecord}
-use Rattle.bk_sched.proofs.Listing.{item_at}
+use Rattle.bk_places.proofs.Filling.{item_at}
 use Rattle.bk_sched.proofs.Placing.{known_none, known_more, known_all}
 use Rattle.bk_sched.proofs.places.numbers.Goals as goal
 

@@ -1,8 +1,8 @@
 use Rattle.std.proofs.Common.{◌∙◌, sym, ap, get_or, None}
 use Rattle.std.proofs.lemmas.Bool.{false≢true}
+use Rattle.bk_places.proofs.Elements.{lent, none_says, some_says}
 use Rattle.bk_form.proofs.Chained.{broken_label, broken_from, broken_line, broken_last, linked}
-use Rattle.bk_form.proofs.Lists.{lent}
-use Rattle.bk_form.proofs.StateNames.{nothing_is, none_says, some_says}
+use Rattle.bk_form.proofs.StateNames.{nothing_is}
 use Rattle.bk_form.proofs.chains.Links.chain.Goals as goal
 
 pub returns-in_default-found : goal.returns-in_default-found

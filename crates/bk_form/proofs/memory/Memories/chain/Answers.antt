@@ -2,8 +2,8 @@ use Rattle.std.proofs.Common.{◌∙◌, ap}
 use Rattle.std.specs.List.{slice_get}
 use Rattle.std.specs.Option.{unwrap_or}
 use Rattle.bk_form.specs.declared.chains.Chain.TheVariants.{Broken}
+use Rattle.bk_places.proofs.Elements.{lent}
 use Rattle.bk_form.specs.Memories.{func_of}
-use Rattle.bk_form.proofs.Lists.{lent}
 use Rattle.bk_form.proofs.Remembered.{chain_is}
 use Rattle.bk_form.proofs.memory.Memories.chain.Goals as goal
 

@@ -1,9 +1,9 @@
 use Rattle.std.proofs.Common.{inl}
+use Rattle.bk_places.proofs.Elements.{contains_at}
 use Rattle.bk_form.specs.Memories.{func_of}
 use Rattle.bk_form.specs.Names.{measure}
 use Rattle.bk_form.proofs.Copied.{values_named}
 use Rattle.bk_form.proofs.Remembered.{yes, no, chain_starts, chain_broken}
-use Rattle.bk_form.proofs.Standing.{contains_at}
 use Rattle.bk_form.proofs.memory.Memories.chain_holds.Goals as goal
 
 pub returns-in-Empty : goal.returns-in-Empty

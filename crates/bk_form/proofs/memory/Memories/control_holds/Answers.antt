@@ -2,10 +2,10 @@ use Rattle.std.proofs.Common.{◌∙◌, sym, ap, subst}
 use Rattle.std.proofs.lemmas.Option.{same_Some}
 use Rattle.bk_func.specs.Records.{BlockRecord}
 use Rattle.bk_func.specs.Form.Walks.{IsReached}
+use Rattle.bk_places.proofs.Elements.{none_says, some_says}
 use Rattle.bk_form.specs.Memories.{func_of}
 use Rattle.bk_form.specs.Names.{measure}
 use Rattle.bk_form.proofs.Remembered.{yes, along, control_none, control_rootless, control_root}
-use Rattle.bk_form.proofs.StateNames.{none_says, some_says}
 use Rattle.bk_form.proofs.Used.{control_number}
 use Rattle.bk_form.proofs.memory.Memories.control_holds.Goals as goal
 

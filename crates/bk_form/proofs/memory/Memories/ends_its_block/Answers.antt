@@ -1,11 +1,11 @@
 use Rattle.std.proofs.Common.{◌∙◌, sym, ap}
 use Rattle.std.proofs.lemmas.Bool.{false≢true}
+use Rattle.bk_places.proofs.Elements.{contains_at}
 use Rattle.bk_form.specs.Memories.{func_of}
 use Rattle.bk_form.specs.Names.{measure}
 use Rattle.bk_form.specs.Numbers.{value_ids, sole}
 use Rattle.bk_form.proofs.Copied.{values_named}
 use Rattle.bk_form.proofs.Remembered.{yes, no, rootless, ends_only}
-use Rattle.bk_form.proofs.Standing.{contains_at}
 use Rattle.bk_form.proofs.Used.{are_named}
 use Rattle.bk_form.proofs.memory.Memories.ends_its_block.Goals as goal
 

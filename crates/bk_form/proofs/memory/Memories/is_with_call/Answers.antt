@@ -4,10 +4,10 @@ use Rattle.std.proofs.lemmas.Bool.{false≢true}
 use Rattle.std.proofs.lemmas.Option.{none-some, same_Some}
 use Rattle.bk_ops.specs.Families.{is_call_result}
 use Rattle.bk_func.specs.Form.Text.{Defines}
+use Rattle.bk_places.proofs.Elements.{lent}
 use Rattle.bk_form.specs.Memories.{func_of}
 use Rattle.bk_form.specs.Names.{measure}
 use Rattle.bk_form.proofs.Copied.{values_named}
-use Rattle.bk_form.proofs.Lists.{lent}
 use Rattle.bk_form.proofs.Remembered.{yes}
 use Rattle.bk_form.proofs.memory.Memories.is_with_call.Goals as goal
 

@@ -1,13 +1,13 @@
 use Rattle.std.proofs.Common.{◌∙◌, sym, ap, subst, ℕ, get_or, Option, None}
 use Rattle.std.proofs.lemmas.Bool.{false≢true}
 use Rattle.bk_func.specs.Form.States.{IsFirstState}
+use Rattle.bk_places.proofs.Elements.{none_says}
 use Rattle.bk_form.specs.Carried.{IsPlaceOf}
 use Rattle.bk_form.specs.Memories.{func_of}
 use Rattle.bk_form.specs.Naming.{NamesIf}
 use Rattle.bk_form.specs.Names.{measure}
 use Rattle.bk_form.proofs.Copied.{values_named}
 use Rattle.bk_form.proofs.Remembered.{yes, no, along, names_nowhere, names_own, names_past, names_first}
-use Rattle.bk_form.proofs.StateNames.{none_says}
 use Rattle.bk_form.proofs.memory.Memories.names_within.Goals as goal
 
 pub returns-in_default : goal.returns-in_default

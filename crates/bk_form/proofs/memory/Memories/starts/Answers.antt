@@ -5,6 +5,7 @@ use Rattle.bk_ops.specs.declared.family.Family.TheVariants.{InitMem}
 use Rattle.bk_func.specs.Records.{ValueRecord}
 use Rattle.bk_func.specs.Form.Text.{HasValue, IsPhi}
 use Rattle.bk_func.specs.Form.States.{IsFirstState, Names}
+use Rattle.bk_places.proofs.Elements.{contains_at}
 use Rattle.bk_form.specs.Carried.{IsPlaceOf}
 use Rattle.bk_form.specs.Memories.{func_of}
 use Rattle.bk_form.specs.Naming.{NamesIf}
@@ -12,7 +13,6 @@ use Rattle.bk_form.specs.Names.{measure}
 use Rattle.bk_form.specs.Places.{NodeRecord}
 use Rattle.bk_form.proofs.Copied.{stands_at, values_named}
 use Rattle.bk_form.proofs.Remembered.{seen, unseen, yes, along, meets, starts_alone, starts_named}
-use Rattle.bk_form.proofs.Standing.{contains_at}
 use Rattle.bk_form.proofs.memory.Memories.starts.Goals as goal
 
 pub returns-in_default : goal.returns-in_default

@@ -1,8 +1,8 @@
 use Rattle.std.proofs.Common.{◌∙◌, sym, get_or}
 use Rattle.std.proofs.lemmas.Bool.{false≢true}
 use Rattle.std.proofs.lemmas.Option.{slice_get-get_or}
+use Rattle.bk_places.proofs.Elements.{lent}
 use Rattle.bk_form.specs.Memories.{func_of}
-use Rattle.bk_form.proofs.Lists.{lent}
 use Rattle.bk_form.proofs.Remembered.{yes, no, taken_none, taken_more, taken_all, not_taken}
 use Rattle.bk_form.proofs.memory.Memories.takes_before.Goals as goal
 

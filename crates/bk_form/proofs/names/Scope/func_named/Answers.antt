@@ -1,7 +1,7 @@
 use Rattle.std.proofs.Common.{◌≡◌, ◌∙◌, sym, ap, None, get_or, arith}
 use Rattle.std.specs.List.{slice_get}
 use Rattle.std.specs.Option.{unwrap_or}
-use Rattle.bk_form.proofs.Lists.{lent}
+use Rattle.bk_places.proofs.Elements.{lent}
 use Rattle.bk_form.proofs.Symbols.{func_at, no_func}
 use Rattle.bk_form.proofs.names.Scope.func_named.Goals as goal
 use Rattle.bk_form.proofs.names.Scope.func_named.Goals.{After-unwrap_or-place}

@@ -1,6 +1,0 @@
-use Rattle.bk_form.specs.Arranged.{Adds}
-use Rattle.bk_form.proofs.Adding.{FollowsBelow}
-use Rattle.bk_form.proofs.order.add_line.Given as goal
-
-abbrev pub invariant-loop-index : goal.invariant-loop-index
-invariant-loop-index l = Adds l.fn.edges (FollowsBelow l.places l.index) l.edges

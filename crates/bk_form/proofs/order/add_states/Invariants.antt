@@ -1,7 +1,0 @@
-use Rattle.std.proofs.Common.{take}
-use Rattle.std.specs.List.{Contains}
-use Rattle.bk_form.specs.Arranged.{Adds}
-use Rattle.bk_form.proofs.order.add_states.Given as goal
-
-abbrev pub invariant-loop-next : goal.invariant-loop-next
-invariant-loop-next l = Adds l.fn.edges (λ p q. Contains (take l.next-index l.nexts) q × Contains l.users p) l.edges

@@ -1,0 +1,15 @@
+pub mod Adding
+pub mod Clearing
+pub mod Elements
+pub mod Extending
+pub mod Filling
+pub mod Firsts
+pub mod Grouping
+pub mod Leading
+pub mod Marking
+pub mod Meeting
+pub mod NamesAt
+pub mod Positions
+pub mod Reaching
+pub mod Reversing
+pub mod Sowing

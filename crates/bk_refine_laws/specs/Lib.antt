@@ -1,0 +1,10 @@
+pub mod Possible
+pub mod Trees
+pub mod Known
+pub mod Applied
+pub mod Words
+pub mod Low
+pub mod Refines
+pub mod Strict
+pub mod Visits
+pub mod Sees

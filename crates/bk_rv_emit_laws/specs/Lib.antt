@@ -1,0 +1,12 @@
+pub mod Leaving
+pub mod Does
+pub mod Windows
+pub mod Octets
+pub mod Frames
+pub mod Steps
+pub mod Jumps
+pub mod Calls
+pub mod Ends
+pub mod Cuts
+pub mod Areas
+pub mod Patched

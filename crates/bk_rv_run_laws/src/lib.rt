@@ -1,0 +1,35 @@
+//! Laws of runs of riscv64's code: the machine follows what functions mean, where it follows each of their blocks.
+#![tactic(auto)]
+
+ghost use Rattle.std.specs.Prelude.{◌≡◌, ◌≤◌, ℕ, ◌+◌, ◌*◌, List};
+ghost use Rattle.bk_func.specs.Meaning.{World, Run, ended};
+ghost use Rattle.bk_func.specs.Numbers.{Program};
+ghost use Rattle.bk_rv_isa.specs.Machine.{Machine, halt};
+ghost use Rattle.bk_run_laws.specs.Follows.{Follows, Meets};
+ghost use Rattle.bk_run_laws.specs.Standing.{ArePlaces, OneBlock, BlockLaw};
+ghost use Rattle.bk_rv_run_laws.specs.Relation.{Image, Beside, IsBack, HasResults, riscv64, standing, RetEnds};
+
+/// A law: a block that ends with a return comes back from its call, with its results and with memory beside its words as before.
+pub fn returns_come_back()
+    ensures { RetEnds }
+{}
+
+/// A law: what parts of a call leave as it was, they leave so together, and a call that comes back from behind a part comes back
+/// from before it; a call that came back within another one is such a part.
+pub fn calls_leave_what_is_above()
+    ensures parts { (limit : ℕ) (m n o : Machine) → Beside limit m n → Beside limit n o → Beside limit m o }
+    ensures behind { (args words home sp : ℕ) (m n o : Machine) (results : List ℕ) (v : World) → Beside (sp + 8 * words) m n → IsBack args words home sp n results v o → IsBack args words home sp m results v o }
+    ensures within { (args words home sp limit : ℕ) (m n : Machine) (results : List ℕ) (v : World) → sp + 8 * words ≤ limit → IsBack args words home sp m results v n → Beside limit m n }
+{}
+
+/// A law: where the machine follows each block of a package, it follows all runs from the entries of its blocks.
+pub fn runs_are_followed()
+    ensures { (x : Image) (p : Program) → ArePlaces p x.blocks (standing x p).place → OneBlock riscv64 (standing x p) p → (k : ℕ) → BlockLaw riscv64 (standing x p) k p }
+{}
+
+/// A law: where the machine follows a call that returns to where it halts, it does what the call comes to: it returns with its
+/// results and the data window, it traps with its number, or it goes on for as many steps as the bound of blocks over their count.
+pub fn machines_meet_the_meaning()
+    ensures { (blocks args words sp : ℕ) (w : World) (m : Machine) (r : Run (List ℕ)) →
+        Follows riscv64 (List ℕ) blocks 0 w m (IsBack args words halt sp m) r → Meets riscv64 w.left blocks m (HasResults args sp) (ended r).0 (ended r).1 }
+{}

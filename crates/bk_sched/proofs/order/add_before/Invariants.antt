@@ -1,7 +1,0 @@
-use Rattle.std.proofs.Common.{◌≡◌, take}
-use Rattle.std.specs.List.{Contains}
-use Rattle.bk_sched.specs.Arranged.{Adds}
-use Rattle.bk_sched.proofs.order.add_before.Given as goal
-
-abbrev pub invariant-loop-place : goal.invariant-loop-place
-invariant-loop-place l = Adds l.fn.edges (λ p q. Contains (take l.place-index l.places) p × (q ≡ l.to)) l.edges
