@@ -13,8 +13,8 @@ use Rattle.bk_func.specs.Form.Before.{IsLoad, IsNilCheck, IsResult}
 use Rattle.bk_func.specs.Form.Signatures.{Setting}
 use Rattle.bk_func.proofs.Faults.{In}
 use Rattle.bk_form_laws.specs.Base.{BaseBefore, argument, state, checks, BasePrecedes, right, onward}
-use Rattle.bk_form_laws.proofs.Named.{IsNamed, to_in, to_contains, got_in, in_got}
-use Rattle.bk_form_laws.proofs.Dominance.{Home, home, one_dominates, defined_from, defined_here, arguments_defined}
+use Rattle.bk_mean.proofs.Named.{IsNamed, to_in, to_contains, got_in, in_got}
+use Rattle.bk_mean.proofs.Dominance.{Home, home, one_dominates, defined_from, defined_here, arguments_defined}
 use Rattle.bk_form_laws.proofs.Lists.{set_here, set_other, front}
 use Rattle.bk_form_laws.proofs.Pairs.{in_new, one_partner}
 use Rattle.bk_form_laws.proofs.Matched.{Under, argument as direct, below, under_defined, under_number}

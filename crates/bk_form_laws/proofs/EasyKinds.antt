@@ -15,9 +15,10 @@ use Rattle.bk_func.specs.Form.Parts.{FitsKind, edges_out, edges_in, KeepsControl
 use Rattle.bk_func.specs.declared.parts.Aux.{Aux}
 use Rattle.bk_func.specs.declared.parts.Aux.TheVariants as beside
 use Rattle.bk_func.proofs.Faults.{In}
-use Rattle.bk_form_laws.specs.Visits.{edited, visited, Visit, IsNew}
+use Rattle.bk_refine_laws.specs.Visits.{edited}
+use Rattle.bk_form_laws.specs.Visits.{visited, Visit, IsNew}
 use Rattle.bk_form_laws.specs.Fits.{NamesOne, NewNames}
-use Rattle.bk_form_laws.proofs.Named.{is_named, to_in, to_contains}
+use Rattle.bk_mean.proofs.Named.{is_named, to_in, to_contains}
 use Rattle.bk_form_laws.proofs.Lists.{sum_set, sum_zero, set_front, none_counted}
 use Rattle.bk_form_laws.proofs.Pairs.{Shape, Pair, Turned, partner, in_old, shape, entry_back}
 use Rattle.bk_form_laws.proofs.Turning.{turned, back, each_value, old_here}

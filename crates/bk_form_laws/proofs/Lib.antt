@@ -1,5 +1,3 @@
-pub mod Named
-pub mod Dominance
 pub mod Lists
 pub mod Pairs
 pub mod Turning

@@ -5,7 +5,7 @@ use Rattle.std.proofs.lemmas.Bool.Decides.{nat_tests}
 use Rattle.std.proofs.lemmas.List.Sums.{sum_by-cons}
 use Rattle.bk_func.specs.Records.{ValueRecord, BlockRecord}
 use Rattle.bk_func.proofs.Faults.{In}
-use Rattle.bk_form_laws.proofs.Named.{Once, got_in}
+use Rattle.bk_mean.proofs.Named.{Once, got_in}
 
 -- ---- sums
 part_of_sum : {A : Type 0} (g : A → ℕ) (x : A) (xs : List A) → In x xs → g x ≤ sum_by g xs

@@ -21,9 +21,10 @@ use Rattle.bk_rule.specs.Bindings.{value_in}
 use Rattle.bk_rule.specs.Match.{NameMatches, Matches, MatchesEach, AuxMatches, ordered, swapped, is_commutative, first_is, order_of, orders}
 use Rattle.bk_rewrite.specs.Making.{aux_in, aux_made}
 use Rattle.bk_form_laws.specs.Fits.{is_special}
-use Rattle.bk_form_laws.specs.Rules.{IsPlainOp, Names, NamesAmong, NamesBelow, NamesSymbol, NamesSymbolAmong, IsPlain, ArePlain}
-use Rattle.bk_form_laws.proofs.Named.{is_named, to_contains, value_found}
-use Rattle.bk_form_laws.proofs.Dominance.{arguments_defined}
+use Rattle.bk_refine_laws.specs.Trees.{Names, NamesAmong, NamesBelow}
+use Rattle.bk_form_laws.specs.Rules.{IsPlainOp, NamesSymbol, NamesSymbolAmong, IsPlain, ArePlain}
+use Rattle.bk_mean.proofs.Named.{is_named, to_contains, value_found}
+use Rattle.bk_mean.proofs.Dominance.{arguments_defined}
 
 -- the number m is an argument of the value n, or of one below it; no phi is on the way
 pub data Under (f : FuncRecord) : ℕ → ℕ → Type 0 where

@@ -15,7 +15,7 @@ use Rattle.bk_func.specs.Form.States.{CopiesMemory, IsFirstInit, IsState, IsStat
 use Rattle.bk_func.specs.Form.Parts.{IsValueNumber}
 use Rattle.bk_func.proofs.Faults.{In}
 use Rattle.bk_form_laws.specs.Fits.{IsThere, is_special, SameNames}
-use Rattle.bk_form_laws.proofs.Named.{IsNamed}
+use Rattle.bk_mean.proofs.Named.{IsNamed}
 use Rattle.bk_form_laws.proofs.Lists.{set_here, set_other, front, got_below}
 use Rattle.bk_form_laws.proofs.Pairs.{turn_shape, turn, shape, in_old, in_new, Along, Beside, beside, one_partner, reached_back, keeps_numbers, entry_back}
 use Rattle.bk_form_laws.proofs.EasyKinds.{each_block}

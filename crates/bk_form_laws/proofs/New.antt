@@ -1,12 +1,8 @@
 -- The values that a rule makes where it is applied: their ops, arguments, numbers and symbols.
-use Rattle.std.proofs.Common.{◌≡◌, ℕ, suc, ◌+◌, ◌≤◌, ◌<◌, ◌^◌, ◌-◌, nat_le, refl, ap, sym, subst, arith, ◌⊎◌, inl, inr, List, [], ◌∷◌, ◌++◌, length, Some, None, Option, true, false, ℤ, pos, negsuc}
-use Rattle.std.specs.Prelude.{slice_get, if◌then◌else◌, ◌&&◌, ◌==◌, IsTrue}
-use Rattle.std.proofs.lemmas.Bool.Decides.{nat_tests}
-use Rattle.std.proofs.lemmas.Nat.{pow_pos}
+use Rattle.std.proofs.Common.{◌≡◌, ℕ, suc, ◌+◌, refl, ap, sym, subst, arith, ◌⊎◌, inl, inr, List, [], ◌∷◌, ◌++◌, length, Some, None, Option, true, false, pos}
+use Rattle.std.specs.Prelude.{slice_get}
 use Rattle.std.proofs.lemmas.Int.{ints}
-use Rattle.bk_num.specs.Word.{signed, residue, fits_signed}
-use Rattle.bk_num.proofs.Signs.{residue_below, signed_fits}
-use Rattle.bk_ops.specs.Table.{info_of, is_op, is_width, row, entry}
+use Rattle.bk_ops.specs.Table.{info_of, is_op, row, entry}
 use Rattle.bk_ops.specs.declared.table.Op.{Op}
 use Rattle.bk_ops.specs.declared.table.AuxKind.{AuxKind}
 use Rattle.bk_ops.specs.declared.table.AuxKind.TheVariants as kind
@@ -32,8 +28,9 @@ use Rattle.bk_func.specs.declared.parts.Aux.TheVariants as aux
 use Rattle.bk_rewrite.specs.Making.{Source, int_as, int_made, aux_made, node_made, result_type, values_made, row_made, name_made, row_names, inner_made, root_made}
 use Rattle.bk_form_laws.specs.Fits.{is_special}
 use Rattle.bk_form_laws.specs.Kinds.{Typed}
-use Rattle.bk_form_laws.specs.Rules.{NamesBelow, NamesSymbol, NamesInt, FitsInt, FitsName, IsMade, made_count, IsBuilt, AreBuilt}
-use Rattle.bk_form_laws.proofs.Named.{in_left, in_right, in_either}
+use Rattle.bk_refine_laws.specs.Trees.{NamesBelow}
+use Rattle.bk_form_laws.specs.Rules.{NamesSymbol, NamesInt, FitsInt, FitsName, IsMade, made_count, IsBuilt, AreBuilt}
+use Rattle.bk_mean.proofs.Named.{in_left, in_right, in_either}
 use Rattle.bk_form_laws.proofs.Matched.{Under}
 use Rattle.bk_form_laws.proofs.Ranges.{zero_signed, const_kept, bool_kept, written_kept, written_fits}
 

@@ -1,20 +1,11 @@
 -- Order after an application, where the states of each block are in turn; and what strict form says of truth values.
-use Rattle.std.proofs.Common.{◌≡◌, ℕ, ap, sym, subst, ◌∙◌, arith, List, Bool, true, false}
-use Rattle.std.specs.Prelude.{MatchBool, if◌then◌else◌}
-use Rattle.bk_ops.specs.Table.{info_of, is_op, row, entry, unknown}
-use Rattle.bk_ops.specs.Types.{width_of, word_width}
-use Rattle.bk_ops.specs.declared.types.Target.{Target}
-use Rattle.bk_ops.specs.declared.types.Target.TheVariants.{Arm, Riscv64}
-use Rattle.bk_ops.specs.declared.types.Ty.TheVariants.{Bool as Boolean}
-use Rattle.bk_ops.specs.declared.family.Family.{Family}
-use Rattle.bk_ops.specs.declared.family.Family.TheVariants as op
+use Rattle.std.proofs.Common.{ℕ, List, Bool}
 use Rattle.bk_func.specs.Records.{ValueRecord, BlockRecord, FuncRecord}
-use Rattle.bk_func.specs.declared.form.FormKind.TheVariants.{Ty, Order}
+use Rattle.bk_func.specs.declared.form.FormKind.TheVariants.{Order}
 use Rattle.bk_func.specs.Form.{Keeps}
 use Rattle.bk_func.specs.Form.Text.{HasBlock}
 use Rattle.bk_func.specs.Form.Before.{ComesBefore, argument, state, checks, Precedes, right, onward}
 use Rattle.bk_func.specs.Form.Signatures.{Setting}
-use Rattle.bk_func.specs.Form.Shapes.{FitsWord, FitsTruth, truth, slot, FitsSlot, FitsPlace, GivesWord, Gives}
 use Rattle.bk_rule.specs.declared.trees.Bound.{Bound}
 use Rattle.bk_rule.specs.declared.trees.Rule.{Rule}
 use Rattle.bk_rewrite.specs.Making.{source, applied}

@@ -6,7 +6,7 @@ use Rattle.bk_func.specs.Records.{BlockRecord, FuncRecord}
 use Rattle.bk_func.specs.Form.Text.{HasBlock, Defines, IsEntry}
 use Rattle.bk_func.specs.Form.Walks.{Walk, begin, onward, IsReached, Passes, IsDefinedAt}
 use Rattle.bk_func.proofs.Faults.{In}
-use Rattle.bk_form_laws.proofs.Named.{IsNamed, to_in, to_contains, got_in, in_got}
+use Rattle.bk_mean.proofs.Named.{IsNamed, to_in, to_contains, got_in, in_got}
 
 -- what a visit keeps of a block
 pub record Shape (c d : BlockRecord) : Type 0 where

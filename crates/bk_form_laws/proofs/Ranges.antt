@@ -1,5 +1,5 @@
 -- The numbers that the expressions of a rule give, and those that a left tree names, have 64 bits.
-use Rattle.std.proofs.Common.{◌≡◌, ℕ, zero, suc, ◌+◌, ◌≤◌, ◌<◌, ◌^◌, ◌-◌, ◌*◌, ◌/◌, ◌%◌, min, nat_le, refl, ap, sym, subst, ◌∙◌, arith, ◌⊎◌, inl, inr, List, [], ◌∷◌, Some, None, Option, Bool, true, false, drop, ℤ, pos, negsuc, cond, pow_mono}
+use Rattle.std.proofs.Common.{◌≡◌, ℕ, zero, suc, ◌≤◌, ◌<◌, ◌^◌, ◌-◌, ◌/◌, nat_le, refl, ap, sym, subst, ◌∙◌, arith, ◌⊎◌, inl, inr, List, [], ◌∷◌, Some, None, Option, Bool, true, false, drop, ℤ, pos, negsuc, pow_mono}
 use Rattle.std.specs.Prelude.{slice_get, if◌then◌else◌, ◌&&◌, ◌==◌, IsTrue, MatchBool}
 use Rattle.std.specs.Int.{int_div_euclid}
 use Rattle.std.proofs.lemmas.Bool.Decides.{nat_tests}
@@ -19,8 +19,6 @@ use Rattle.bk_ops.specs.declared.table.AuxKind.TheVariants as kind
 use Rattle.bk_ops.specs.declared.family.Family.{Family}
 use Rattle.bk_ops.specs.declared.family.Family.TheVariants as op
 use Rattle.bk_func.specs.Records.{ValueRecord, FuncRecord}
-use Rattle.bk_func.specs.declared.form.FormKind.TheVariants.{Missing}
-use Rattle.bk_func.specs.Form.{Keeps}
 use Rattle.bk_func.specs.Form.Signatures.{Setting}
 use Rattle.bk_func.specs.Form.Parts.{IsSigned, IsBetween, InRange, HasRange}
 use Rattle.bk_rule.specs.declared.trees.Bound.{Bound}
@@ -33,13 +31,13 @@ use Rattle.bk_rule.specs.declared.trees.Expr as expr
 use Rattle.bk_rule.specs.declared.trees.Pattern.{Pattern, Row_of-Pattern, end_of-Pattern, more_of-Pattern}
 use Rattle.bk_rule.specs.declared.trees.Pattern as pattern
 use Rattle.bk_rule.specs.Bindings.{int_in}
-use Rattle.bk_rule.specs.Expressions.{Env, Operand, truth, log2_below, log2_of, unary, binary, of_variable, asks, at_variable, on_one, on_two, applied, variable_of, expr_value, operands, down_by}
+use Rattle.bk_rule.specs.Expressions.{Env, Operand, truth, log2_below, log2_of, unary, binary, of_variable, asks, at_variable, on_one, on_two, applied, expr_value, operands, down_by}
 use Rattle.bk_rule.specs.Match.{IntMatches, Matches, MatchesEach, ordered, order_of, orders}
 use Rattle.bk_rewrite.specs.Making.{kept_as, int_as}
-use Rattle.bk_form_laws.proofs.Named.{value_found}
+use Rattle.bk_mean.proofs.Named.{value_found}
 use Rattle.bk_form_laws.specs.Fits.{is_special}
 use Rattle.bk_form_laws.specs.Kinds.{Typed}
-use Rattle.bk_form_laws.specs.Rules.{IsPlainOp, IsPlain, ArePlain, NamesInt, NamesIntAmong, IsWritten, AreWritten}
+use Rattle.bk_form_laws.specs.Rules.{IsPlain, ArePlain, NamesInt, NamesIntAmong, IsWritten, AreWritten}
 
 -- ---- numbers beside ops
 fits_over : (w : ℕ) (z : ℤ) → IsTrue (fits_signed w z) → IsSigned w z

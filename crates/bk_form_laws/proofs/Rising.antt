@@ -11,10 +11,11 @@ use Rattle.bk_rule.specs.declared.trees.Build as build
 use Rattle.bk_rule.specs.declared.trees.Rule.{Rule}
 use Rattle.bk_rule.specs.Bindings.{value_in}
 use Rattle.bk_rewrite.specs.Making.{Source, source, node_made, result_type, values_made, row_made, name_made, row_names, inner_made, applied, next_number}
-use Rattle.bk_form_laws.specs.Rules.{NamesBelow, IsBuilt, AreBuilt, IsRead, IsPure}
+use Rattle.bk_refine_laws.specs.Trees.{NamesBelow}
+use Rattle.bk_form_laws.specs.Rules.{IsBuilt, AreBuilt, IsRead, IsPure}
 use Rattle.bk_form_laws.specs.Typed.{KeepsTypes}
 use Rattle.bk_form_laws.specs.Kinds.{Applies, Nearly, HasNoCycle, AllReached}
-use Rattle.bk_form_laws.proofs.Named.{in_either}
+use Rattle.bk_mean.proofs.Named.{in_either}
 use Rattle.bk_form_laws.proofs.Matched.{Under, under_number, named_below}
 use Rattle.bk_form_laws.proofs.Steps.{Step, here, there}
 use Rattle.bk_form_laws.proofs.Applied.{applied_is, nodes, step}

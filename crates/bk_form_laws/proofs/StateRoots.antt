@@ -24,7 +24,7 @@ use Rattle.bk_form_laws.specs.Fits.{is_special, SameNames}
 use Rattle.bk_form_laws.specs.Rules.{IsRead, EndsWith, RowEnds, MadeEndsWith, MadeEnds, TakesState, MakesState, KeepsState}
 use Rattle.bk_form_laws.specs.Typed.{KeepsTypes}
 use Rattle.bk_form_laws.specs.Kinds.{Applies, Nearly}
-use Rattle.bk_form_laws.proofs.Named.{is_named, found_value}
+use Rattle.bk_mean.proofs.Named.{is_named, found_value}
 use Rattle.bk_form_laws.proofs.EasyKinds.{missing_kept}
 use Rattle.bk_form_laws.proofs.Steps.{Step, after, here, stands_over, stands_back, argument_there, no_result}
 use Rattle.bk_form_laws.proofs.Applied.{framed, made_by, root_by, as_visit, applied_is, nodes, new_names, step}

@@ -22,9 +22,9 @@ use Rattle.bk_func.specs.Form.Text.{HasValue}
 use Rattle.bk_func.specs.Form.States.{StandsFor}
 use Rattle.bk_func.specs.Form.Signatures.{Setting, in_registers, ResultOf, ArgumentOf, sig_of}
 use Rattle.bk_func.specs.Form.Parts.{IsValueNumber}
-use Rattle.bk_func.specs.Form.Shapes.{IsData, FitsBits, FitsTruth, IsAlike, Slot, bits, word, truth, memory, same, stored, base, call, argument, result, slot, IsFree, is_call_of, FitsStored, FitsPlaceOf, FitsWordOf, FitsSlot, FitsList, FitsPlace, GivesByType, GivesWord, GivesResults, Gives, HasTypes, IsMemory, FitsControl, HasControlType}
+use Rattle.bk_func.specs.Form.Shapes.{IsData, FitsBits, FitsTruth, IsAlike, Slot, bits, word, truth, memory, same, stored, base, call, argument, result, slot, IsFree, is_call_of, FitsStored, FitsWordOf, FitsSlot, FitsList, FitsPlace, GivesByType, GivesWord, GivesResults, Gives, HasTypes, IsMemory, FitsControl, HasControlType}
 use Rattle.bk_form_laws.specs.Visits.{IsNew}
-use Rattle.bk_form_laws.specs.Fits.{IsThere, is_special, Replaces, SameNames}
+use Rattle.bk_form_laws.specs.Fits.{IsThere, Replaces, SameNames}
 use Rattle.bk_form_laws.proofs.Pairs.{shape, in_old}
 use Rattle.bk_form_laws.proofs.EasyKinds.{each_block}
 use Rattle.bk_form_laws.proofs.Steps.{Step, after, block_after, Pairs, here, root_in, partner_at, turned_at, stays, is_v, each, old_value, there, argument_there}

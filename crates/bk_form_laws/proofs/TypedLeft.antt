@@ -21,7 +21,7 @@ use Rattle.bk_func.specs.Form.{Keeps}
 use Rattle.bk_func.specs.Form.Text.{HasValue}
 use Rattle.bk_func.specs.Form.Signatures.{Setting}
 use Rattle.bk_func.specs.Form.Parts.{IsValueNumber}
-use Rattle.bk_func.specs.Form.Shapes.{IsData, FitsWord, Slot, bits, word, truth, memory, same, stored, base, call, argument, result, slot, IsFree, FitsStored, FitsSlot, FitsPlace, GivesByType, GivesWord, Gives}
+use Rattle.bk_func.specs.Form.Shapes.{IsData, FitsWord, Slot, bits, word, truth, memory, same, stored, base, call, argument, result, slot, FitsStored, FitsSlot, FitsPlace, GivesByType, GivesWord, Gives}
 use Rattle.bk_func.proofs.Faults.{In}
 use Rattle.bk_rule.specs.declared.trees.Bound.{Bound}
 use Rattle.bk_rule.specs.declared.trees.Bound.TheVariants as bound
@@ -32,7 +32,7 @@ use Rattle.bk_rule.specs.Match.{NameMatches, TypeMatches, Matches, MatchesEach, 
 use Rattle.bk_form_laws.specs.Fits.{is_special, IsThere}
 use Rattle.bk_form_laws.specs.Rules.{IsPlain, ArePlain}
 use Rattle.bk_form_laws.specs.Typed.{Seen, is_base, seen, Shows, HasResult, IsNamed, IsTyped, Fits, FitEach}
-use Rattle.bk_form_laws.proofs.Named.{is_named, found_value, to_contains}
+use Rattle.bk_mean.proofs.Named.{is_named, found_value, to_contains}
 use Rattle.bk_form_laws.proofs.Matched.{in_ordered}
 use Rattle.bk_form_laws.proofs.Steps.{there}
 use Rattle.std.proofs.lemmas.List.Elements.{All-contains}

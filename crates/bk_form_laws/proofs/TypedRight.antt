@@ -27,9 +27,10 @@ use Rattle.bk_rule.specs.Bindings.{value_in, bound_env}
 use Rattle.bk_rule.specs.Expressions.{Env}
 use Rattle.bk_rewrite.specs.Making.{Source, type_made, node_made, result_type, values_made, row_made, name_made, row_names}
 use Rattle.bk_form_laws.specs.Fits.{is_special, IsThere, Replaces}
-use Rattle.bk_form_laws.specs.Rules.{NamesBelow, IsBuilt, AreBuilt}
+use Rattle.bk_refine_laws.specs.Trees.{NamesBelow}
+use Rattle.bk_form_laws.specs.Rules.{IsBuilt, AreBuilt}
 use Rattle.bk_form_laws.specs.Typed.{Seen, is_base, seen, Takes, HasResult, type_of, shown, IsRight, AreRight}
-use Rattle.bk_form_laws.proofs.Named.{IsNamed, is_named, found_value, in_left, in_right, in_either}
+use Rattle.bk_mean.proofs.Named.{IsNamed, is_named, found_value, in_left, in_right, in_either}
 use Rattle.bk_form_laws.proofs.Matched.{Under, under_number}
 use Rattle.bk_form_laws.proofs.New.{IsNode}
 use Rattle.bk_form_laws.proofs.TypedLeft.{seen_of, shows_in}

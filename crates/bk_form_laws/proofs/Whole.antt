@@ -28,7 +28,7 @@ use Rattle.bk_form_laws.specs.Fits.{is_special, Replaces, SameNames}
 use Rattle.bk_form_laws.specs.Rules.{IsPlainOp, IsPlain, IsNode, IsBuilt, IsRead}
 use Rattle.bk_form_laws.specs.Kinds.{Applies, Typed}
 use Rattle.bk_form_laws.specs.Typed.{seen, is_base, Fits, IsLike, IsRoot, type_of, KeepsTypes}
-use Rattle.bk_form_laws.proofs.Named.{is_named, found_value}
+use Rattle.bk_mean.proofs.Named.{is_named, found_value}
 use Rattle.bk_form_laws.proofs.Matched.{Under, named_below}
 use Rattle.bk_form_laws.proofs.New.{IsNode as IsMadeNode}
 use Rattle.bk_form_laws.proofs.EasyKinds.{missing_kept}

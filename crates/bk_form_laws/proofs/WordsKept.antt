@@ -1,12 +1,12 @@
 -- The call that the word of an argument goes to stays the one that it was.
-use Rattle.std.proofs.Common.{◌≡◌, ℕ, ◌==◌, refl, ap, sym, subst, ◌∙◌, arith, ◌⊎◌, inl, inr, List, [], ◌∷◌, Some, Bool, true, false}
+use Rattle.std.proofs.Common.{◌≡◌, ℕ, ◌==◌, refl, ap, sym, subst, ◌∙◌, arith, ◌⊎◌, inl, inr, Some, Bool, true, false}
 use Rattle.std.specs.Prelude.{slice_get, count_by}
 use Rattle.std.proofs.lemmas.Bool.{cases_eq}
 use Rattle.bk_ops.specs.Families.{is_word_call}
 use Rattle.bk_ops.specs.declared.family.Family.{Family}
 use Rattle.bk_ops.specs.declared.family.Family.TheVariants as op
 use Rattle.bk_func.specs.Records.{ValueRecord, BlockRecord, FuncRecord, SigRecord, PackageRecord}
-use Rattle.bk_func.specs.Form.Text.{HasValue, IsPhi}
+use Rattle.bk_func.specs.Form.Text.{HasValue}
 use Rattle.bk_func.specs.Form.States.{Names}
 use Rattle.bk_func.specs.Form.Signatures.{IsBefore, last, before, ArgumentOf, sig_of}
 use Rattle.bk_func.specs.Form.Parts.{IsBlockNumber}

@@ -16,26 +16,10 @@ use Rattle.bk_rule.specs.declared.trees.Pattern as pattern
 use Rattle.bk_rule.specs.declared.trees.Build.{Build, Row_of-Build, end_of-Build, more_of-Build}
 use Rattle.bk_rule.specs.declared.trees.Build as build
 use Rattle.bk_rule.specs.declared.trees.Rule.{Rule}
+use Rattle.bk_refine_laws.specs.Trees.{NamesBelow}
 use Rattle.bk_form_laws.specs.Fits.{is_special}
 
 -- ---- variables of the left tree
-abbrev mutual
-  -- the variable names a value of the tree
-  pub Names : ℕ → Pattern → Type 0
-  Names i pattern.Any = ⊥
-  Names i (pattern.Var j) = j ≡ i
-  Names i (pattern.Node' name o ty int x shape ps) = (name ≡ Some i) ⊎ NamesAmong i ps
-
-  pub NamesAmong : ℕ → {m : _} → Row_of-Pattern m → Type 0
-  NamesAmong i end_of-Pattern = ⊥
-  NamesAmong i (more_of-Pattern p ps) = Names i p ⊎ NamesAmong i ps
-
--- the variable names a value below the root
-abbrev pub NamesBelow : ℕ → Pattern → Type 0
-NamesBelow i pattern.Any = ⊥
-NamesBelow i (pattern.Var j) = ⊥
-NamesBelow i (pattern.Node' name o ty int x shape ps) = NamesAmong i ps
-
 abbrev mutual
   -- the variable names what stands beside an op that names a variable of the package
   pub NamesSymbol : ℕ → Pattern → Type 0
@@ -69,6 +53,7 @@ abbrev mutual
   AreWritten l end_of-Expr = Unit {0}
   AreWritten l (more_of-Expr x xs) = IsWritten l x × AreWritten l xs
 
+-- the op is no copy, and of no family that says what a value is to others
 pub record IsPlainOp (o : Op) : Type 0 where
   pub family : is_special o.family ≡ false
   pub copy : ¬ (o.family ≡ op.Copy)
