@@ -15,25 +15,25 @@ ghost use Rattle.bk_form_laws.specs.Rules.{IsRead, IsPure, KeepsState};
 ghost use Rattle.bk_form_laws.specs.Typed.{KeepsTypes};
 ghost use Rattle.bk_form_laws.specs.Kinds.{Applies, Framed, Nearly, HasNoCycle, AllReached};
 
-/// A law: a rule as it is read, sound or not, keeps Control, Missing, Arity and Use, in each setting.
+/// A law: a rule as it is read, sound or not, keeps Control, Missing, Arity and Use, in strict form and in word form.
 pub fn rules_keep_frames()
     ensures { (s : Setting) (r : Rule) (f : FuncRecord) (b k : ℕ) (x : BlockRecord) (v : ValueRecord) (bs : List Bound) (cs : List Bool) → Applies s r f b k x v bs cs →
         IsRead r → Framed s f → Framed s (applied (source f bs s.target) r.right b k v) }
 {}
 
-/// A law: one that keeps types, and whose roots have nothing to do with memory, keeps all the kinds but Order.
+/// A law: a rule that keeps types, and whose roots have nothing to do with memory, keeps each kind of form but Order.
 pub fn rules_keep_all_kinds_but_order()
     ensures { (s : Setting) (r : Rule) (f : FuncRecord) (b k : ℕ) (x : BlockRecord) (v : ValueRecord) (bs : List Bound) (cs : List Bool) → Applies s r f b k x v bs cs →
         IsRead r → KeepsTypes s r → IsPure r → Nearly s f → Nearly s (applied (source f bs s.target) r.right b k v) }
 {}
 
-/// A law: so does one whose roots take memory, both the same state.
+/// A law: so does a rule that keeps types and whose roots both take one state of memory.
 pub fn state_rules_keep_all_kinds_but_order()
     ensures { (s : Setting) (r : Rule) (f : FuncRecord) (b k : ℕ) (x : BlockRecord) (v : ValueRecord) (bs : List Bound) (cs : List Bool) → Applies s r f b k x v bs cs →
         IsRead r → KeepsTypes s r → KeepsState r → Nearly s f → Nearly s (applied (source f bs s.target) r.right b k v) }
 {}
 
-/// A law: a rule whose roots have nothing to do with memory makes no cycle in the base of the order inside a block.
+/// A law: a rule that keeps types, and whose roots have nothing to do with memory, makes no cycle of arguments, states and checks in a block.
 pub fn rules_make_no_cycle()
     ensures { (s : Setting) (r : Rule) (f : FuncRecord) (b k : ℕ) (x : BlockRecord) (v : ValueRecord) (bs : List Bound) (cs : List Bool) → Applies s r f b k x v bs cs →
         IsRead r → KeepsTypes s r → IsPure r → Nearly s f → AllReached f → HasNoCycle f → HasNoCycle (applied (source f bs s.target) r.right b k v) }
