@@ -1,2 +1,4 @@
 pub mod Ret
 pub mod Besides
+pub mod Opening
+pub mod Starting
