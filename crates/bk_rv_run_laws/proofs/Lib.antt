@@ -2,3 +2,4 @@ pub mod Ret
 pub mod Besides
 pub mod Opening
 pub mod Starting
+pub mod Returning

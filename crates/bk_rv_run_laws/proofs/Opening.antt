@@ -1,9 +1,9 @@
 -- A call that begins.
-use Rattle.std.proofs.Common.{◌≡◌, ◌≢◌, ℕ, ◌+◌, ◌-◌, ◌*◌, ◌^◌, ◌<◌, ◌≤◌, List, length, ap, ◌∙◌, sym, subst, refl, arith, Option, Some, None, Bool, true, false, cond, inl, inr}
+use Rattle.std.proofs.Common.{◌≡◌, ℕ, ◌+◌, ◌-◌, ◌*◌, ◌^◌, ◌<◌, ◌≤◌, List, length, ap, ◌∙◌, sym, subst, refl, arith, Option, Some, None, Bool, true, false, cond, inr}
 use Rattle.std.specs.Prelude.{slice_get, slice_index, nat_lt, unwrap_or, take, drop}
 use Rattle.std.proofs.lemmas.Bool.Decides.{nat_tests}
 use Rattle.bk_num.proofs.Bytes.{load_is}
-use Rattle.bk_num.specs.Bytes.{number, load_in}
+use Rattle.bk_num.specs.Bytes.{number}
 use Rattle.bk_func.specs.Records.{BlockRecord, FuncRecord}
 use Rattle.bk_func.specs.Numbers.{Program, numbers}
 use Rattle.bk_func.specs.Meaning.{World, Entries, trapped, stops, entered, entry_id, fresh, begun_in}
@@ -17,13 +17,13 @@ use Rattle.bk_rv_emit.specs.Blocks.{entry}
 use Rattle.bk_rv_emit_laws.specs.Octets.{AreBytes}
 use Rattle.bk_rv_emit_laws.specs.Frames.{IsFrame, Holds, word_address}
 use Rattle.bk_rv_emit_laws.specs.Steps.{IsSpot}
-use Rattle.bk_rv_emit_laws.specs.Calls.{HasLeft, Enters}
+use Rattle.bk_rv_emit_laws.specs.Calls.{Enters}
 use Rattle.bk_rv_emit_laws.proofs.Below.{loads_are_below}
 use Rattle.bk_rv_emit_laws.proofs.Entry.{entry_enters, entry_traps}
-use Rattle.bk_run_laws.specs.Follows.{Follows, Stops}
+use Rattle.bk_run_laws.specs.Follows.{Follows}
 use Rattle.bk_run_laws.specs.Standing.{EntryLaw}
 use Rattle.bk_run_laws.proofs.Following.{follows_after, follows_map}
-use Rattle.bk_rv_run_laws.specs.Relation.{Image, Call, HasBytes, HasWords, AreHeld, IsUnderWay, IsBack, Beside, riscv64, standing}
+use Rattle.bk_rv_run_laws.specs.Relation.{Image, Call, IsUnderWay, IsBack, Beside, riscv64, standing}
 use Rattle.bk_rv_run_laws.specs.Calling.{IsCalled, IsArgument, Opens, CallsFollow}
 use Rattle.bk_rv_run_laws.proofs.Besides.{back_behind}
 
@@ -113,16 +113,22 @@ opened x p i f args stack w back sp m o long c high e =
       held = holds_held fr own e.after frame stack_bytes;
       values = record { each = values };
       window = e.window ∙ c.window;
-      bound = e.others 27 (λ q. omega (arith, q)) (λ q. omega (arith, q)) ∙ l.bound ∙ sym e.bottom;
-      left = omega (arith, kb, l1, point, high);
+      left = record {
+        bound = e.others 27 (λ q. omega (arith, q)) (λ q. omega (arith, q)) ∙ l.bound ∙ sym e.bottom;
+        pointer = omega (arith, kb, l1, ep, high);
+        inside = omega (arith, kl, l2);
+        small = omega (arith, kb, kl, l3);
+      };
       return = ap (λ a. load e.after 8 a) (let q : own + size - 8 ≡ reg m.regs 2 - 8 = omega (arith, up, point) in q) ∙ e.saved ∙ ap Some c.return;
       home = c.home;
-      given = record { each = λ k t.
-          let g = o.given k t in
-          let g0 = g.0 in
-          let g1 = g.1 in
-          let up2 : own + size + 8 * k ≡ sp + 8 * k = omega (arith, up) in
-          ap (λ a. load e.after 8 a) up2 ∙ e.apart 8 (sp + 8 * k) (inr (omega (arith, point))) ∙ c.high k g0 (omega (arith, g1, long)) };
+      given = record {
+        each = λ k t.
+            let g = o.given k t in
+            let g0 = g.0 in
+            let g1 = g.1 in
+            let up2 : own + size + 8 * k ≡ sp + 8 * k = omega (arith, up) in
+            ap (λ a. load e.after 8 a) up2 ∙ e.apart 8 (sp + 8 * k) (inr (omega (arith, point))) ∙ c.high k g0 (omega (arith, g1, long));
+      };
       out = record { each = λ k t. let q : false ≡ true = sym (o.out k) ∙ t in absurd cc };
       back = record { each = λ k t. let q : false ≡ true = sym (o.back k) ∙ t in absurd cc };
     }
@@ -189,7 +195,7 @@ begun_by false x p enter k law i f args stack window left back sp m t ef o long 
     let up : sp - size + size ≡ sp = omega (arith, l1, point, most) in
     let b = beside_entry (sp + 8 * z.words) size m (omega (arith, point)) e in
     let back_to : (rs : List ℕ) (v : World) (n : Machine) → IsBack z.args z.words back (sp - size + size) e.after rs v n → IsBack z.args z.words back sp m rs v n = λ rs v n h.
-        back_behind z.args z.words back sp m e.after n rs v b (subst (λ q. IsBack z.args z.words back q e.after rs v n) up h) in
+    back_behind z.args z.words back sp m e.after n rs v b (subst (λ q. IsBack z.args z.words back q e.after rs v n) up h) in
     let g = follows_map riscv64 (List ℕ) x.blocks (z.place (entry_id f.blocks)) w e.after (IsBack z.args z.words back (sp - size + size) e.after) (IsBack z.args z.words back sp m) (enter i (fresh args (stack - size)) (entry_id f.blocks) 0 w) back_to s in
     subst (λ q. Follows riscv64 (List ℕ) x.blocks 0 w m (IsBack z.args z.words back sp m) (enter i (fresh args (stack - q)) (entry_id f.blocks) 0 w)) (sym fr)
     (follows_after riscv64 (List ℕ) x.blocks 0 (z.place (entry_id f.blocks)) e.steps w w m e.after (IsBack z.args z.words back sp m) (enter i (fresh args (stack - size)) (entry_id f.blocks) 0 w) e.goes (record { some = omega arith }) g)

@@ -3,10 +3,9 @@ use Rattle.std.proofs.Common.{◌≡◌, ℕ, zero, suc, ◌+◌, ◌-◌, ◌*�
 use Rattle.std.specs.Prelude.{slice_index, replicate}
 use Rattle.bk_num.specs.Bytes.{each_bytes, bytes}
 use Rattle.bk_func.specs.Meaning.{World, begun, run}
-use Rattle.bk_rv_isa.specs.Machine.{Machine, reg, halt, stack_top, first_eight, cells, start_regs, start}
+use Rattle.bk_rv_isa.specs.Machine.{reg, halt, stack_top, first_eight, cells, start_regs, start}
 use Rattle.bk_rv_isa.proofs.Start.{length-start, length-regs, placed_start, in_register_at_start, in_cell_at_start}
 use Rattle.bk_rv_isa.proofs.Steps.{returned}
-use Rattle.bk_rv_emit_laws.specs.Leaving.{IsWell}
 use Rattle.bk_rv_emit_laws.specs.Octets.{AreBytes}
 use Rattle.bk_rv_emit_laws.proofs.Paths as P
 use Rattle.bk_rv_emit_laws.proofs.Below.{append_are, bytes_are}
@@ -49,7 +48,10 @@ regs_words stack args s h =
     let l1 : halt < 2 ^ 64 = omega arith in
     let l2 : stack_top < 2 ^ 64 = omega arith in
     let l3 : stack_top - stack < 2 ^ 64 = omega arith in
-    (l0, (l1, (l2, join_words (replicate 7 0) _ (zero_words 7) (join_words (first_eight args) _ (eight_words args h) (join_words (replicate 9 0) _ (zero_words 9) (l3, zero_words 4))))))
+    let last : AreWords ((stack_top - stack) ∷ replicate 4 0) = (l3, zero_words 4) in
+    let third : AreWords (replicate 9 0 ++ (stack_top - stack) ∷ replicate 4 0) = join_words (replicate 9 0) ((stack_top - stack) ∷ replicate 4 0) (zero_words 9) last in
+    let second = join_words (first_eight args) (replicate 9 0 ++ (stack_top - stack) ∷ replicate 4 0) (eight_words args h) third in
+    (l0, (l1, (l2, join_words (replicate 7 0) (first_eight args ++ (replicate 9 0 ++ (stack_top - stack) ∷ replicate 4 0)) (zero_words 7) second)))
 
 -- bytes
 

@@ -1,12 +1,11 @@
 -- A call that begins, and the start of the machine.
-use Rattle.std.specs.Prelude.{◌≡◌, ◌<◌, ◌≤◌, ℕ, ◌+◌, ◌-◌, ◌*◌, ◌^◌, true, false, List, length, Option, Some, slice_get, slice_index}
+use Rattle.std.specs.Prelude.{◌≡◌, ◌<◌, ◌≤◌, ℕ, ◌+◌, ◌-◌, ◌*◌, ◌^◌, true, false, List, length, Some, slice_get, slice_index}
 use Rattle.bk_func.specs.Records.{BlockRecord, FuncRecord}
 use Rattle.bk_func.specs.Numbers.{Program, numbers}
 use Rattle.bk_func.specs.Edits.{block_of}
-use Rattle.bk_func.specs.Meaning.{World, Entries, Outcome, entered, entry_id, fresh, begun, run, ended}
+use Rattle.bk_func.specs.Meaning.{World, Entries, entered, entry_id, fresh, begun, run, ended}
 use Rattle.bk_num.specs.Memory.{pool_base, data_base}
-use Rattle.bk_rv_isa.specs.Machine.{HasAt, Machine, IsPlaced, reg, load, halt, stack_top, start}
-use Rattle.bk_emit.specs.declared.blocks.Frame.{Frame}
+use Rattle.bk_rv_isa.specs.Machine.{HasAt, Machine, IsPlaced, reg, load, stack_top, start}
 use Rattle.bk_emit.specs.declared.blocks.Spot.{Spot}
 use Rattle.bk_emit.specs.declared.blocks.Spot.TheVariants.{Register}
 use Rattle.bk_rv_emit.specs.Blocks.{entry}

@@ -1,2 +1,3 @@
 pub mod Relation
 pub mod Calling
+pub mod Within

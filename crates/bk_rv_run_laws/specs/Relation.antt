@@ -11,6 +11,7 @@ use Rattle.bk_rv_emit_laws.specs.Leaving.{IsWell}
 use Rattle.bk_rv_emit_laws.specs.Octets.{AreBytes}
 use Rattle.bk_rv_emit_laws.specs.Frames.{IsFrame, Holds}
 use Rattle.bk_rv_emit_laws.specs.Steps.{IsSpot}
+use Rattle.bk_rv_emit_laws.specs.Calls.{HasLeft}
 use Rattle.bk_run_laws.specs.Follows.{System, Ends}
 use Rattle.bk_run_laws.specs.Standing.{Standing}
 
@@ -76,8 +77,7 @@ pub record IsUnderWay (x : Image) (p : Program) (i : ℕ) (f : FuncRecord) (id :
   pub held : Holds (x.shape i).frame call.sp m holds
   pub values : AreHeld (x.shape i).frame ((x.shape i).at id) (numbers p f a.env) holds
   pub window : m.window ≡ d
-  pub bound : reg m.regs 27 ≡ m.bottom
-  pub left : call.sp ≡ m.bottom + a.stack
+  pub left : HasLeft m a.stack
   pub return : load m 8 (call.sp + (x.shape i).frame.bytes - 8) ≡ Some call.home
   pub home : IsReturn call.home
   pub given : HasWords m (call.sp + (x.shape i).frame.bytes) ((x.shape i).given id) (slice_index a.env.args)

@@ -9,6 +9,7 @@ ghost use Rattle.bk_run_laws.specs.Follows.{Follows, Meets};
 ghost use Rattle.bk_run_laws.specs.Standing.{ArePlaces, OneBlock, BlockLaw};
 ghost use Rattle.bk_rv_run_laws.specs.Calling.{CallsFollow, PackagesRun};
 ghost use Rattle.bk_rv_run_laws.specs.Relation.{Image, Beside, IsBack, HasResults, riscv64, standing, RetEnds};
+ghost use Rattle.bk_rv_run_laws.specs.Within.{CallsReturn};
 
 /// A law: a block that ends with a return comes back from its call, with its results and with memory beside its words as before.
 pub fn returns_come_back()
@@ -39,6 +40,12 @@ pub fn machines_meet_the_meaning()
 /// arguments in registers and in the stack: it traps where the frame exceeds the stack that is left, else it comes to the first block.
 pub fn calls_are_followed()
     ensures { CallsFollow }
+{}
+
+/// A law: then the machine follows a call that stands in a frame, too; where it comes back the machine is behind it, its results are
+/// there, and the words of the frame hold what they held.
+pub fn calls_come_back()
+    ensures { CallsReturn }
 {}
 
 /// A law: where the machine follows each block of a package, then from its start at a function, with arguments and a stack, it does
