@@ -3,3 +3,4 @@ pub mod Besides
 pub mod Opening
 pub mod Starting
 pub mod Returning
+pub mod Crossing

@@ -105,32 +105,34 @@ opened x p i f args stack w back sp m o long c high e =
     } in
     record {
       pc = e.pc ∙ ap (λ a. a + 4 * length (entry size)) c.pc ∙ sym o.first;
-      text = text;
-      pool = e.pool ∙ c.pool;
-      bytes = record { window = subst AreBytes (sym e.window) bytes.window; stack = stack_bytes; pool = subst AreBytes (sym e.pool) bytes.pool };
-      frame = frame;
-      holds = held fr own e.after;
-      held = holds_held fr own e.after frame stack_bytes;
-      values = record { each = values };
-      window = e.window ∙ c.window;
-      left = record {
-        bound = e.others 27 (λ q. omega (arith, q)) (λ q. omega (arith, q)) ∙ l.bound ∙ sym e.bottom;
-        pointer = omega (arith, kb, l1, ep, high);
-        inside = omega (arith, kl, l2);
-        small = omega (arith, kb, kl, l3);
+      inside = record {
+        text = text;
+        pool = e.pool ∙ c.pool;
+        bytes = record { window = subst AreBytes (sym e.window) bytes.window; stack = stack_bytes; pool = subst AreBytes (sym e.pool) bytes.pool };
+        frame = frame;
+        holds = held fr own e.after;
+        held = holds_held fr own e.after frame stack_bytes;
+        values = record { each = values };
+        window = e.window ∙ c.window;
+        left = record {
+          bound = e.others 27 (λ q. omega (arith, q)) (λ q. omega (arith, q)) ∙ l.bound ∙ sym e.bottom;
+          pointer = omega (arith, kb, l1, ep, high);
+          inside = omega (arith, kl, l2);
+          small = omega (arith, kb, kl, l3);
+        };
+        return = ap (λ a. load e.after 8 a) (let q : own + size - 8 ≡ reg m.regs 2 - 8 = omega (arith, up, point) in q) ∙ e.saved ∙ ap Some c.return;
+        home = c.home;
+        given = record {
+          each = λ k t.
+              let g = o.given k t in
+              let g0 = g.0 in
+              let g1 = g.1 in
+              let up2 : own + size + 8 * k ≡ sp + 8 * k = omega (arith, up) in
+              ap (λ a. load e.after 8 a) up2 ∙ e.apart 8 (sp + 8 * k) (inr (omega (arith, point))) ∙ c.high k g0 (omega (arith, g1, long));
+        };
+        out = record { each = λ k t. let q : false ≡ true = sym (o.out k) ∙ t in absurd cc };
+        back = record { each = λ k t. let q : false ≡ true = sym (o.back k) ∙ t in absurd cc };
       };
-      return = ap (λ a. load e.after 8 a) (let q : own + size - 8 ≡ reg m.regs 2 - 8 = omega (arith, up, point) in q) ∙ e.saved ∙ ap Some c.return;
-      home = c.home;
-      given = record {
-        each = λ k t.
-            let g = o.given k t in
-            let g0 = g.0 in
-            let g1 = g.1 in
-            let up2 : own + size + 8 * k ≡ sp + 8 * k = omega (arith, up) in
-            ap (λ a. load e.after 8 a) up2 ∙ e.apart 8 (sp + 8 * k) (inr (omega (arith, point))) ∙ c.high k g0 (omega (arith, g1, long));
-      };
-      out = record { each = λ k t. let q : false ≡ true = sym (o.out k) ∙ t in absurd cc };
-      back = record { each = λ k t. let q : false ≡ true = sym (o.back k) ∙ t in absurd cc };
     }
   where
     argument : (b : BlockRecord) (k id : ℕ) → IsArgument p f b (x.shape i).args k id → reg e.after.regs (10 + k) ≡ numbers p f (entered p f b 0 (fresh args (stack - (x.shape i).frame.bytes)) w).env id

@@ -8,6 +8,7 @@ ghost use Rattle.bk_rv_isa.specs.Machine.{Machine, halt};
 ghost use Rattle.bk_run_laws.specs.Follows.{Follows, Meets};
 ghost use Rattle.bk_run_laws.specs.Standing.{ArePlaces, OneBlock, BlockLaw};
 ghost use Rattle.bk_rv_run_laws.specs.Calling.{CallsFollow, PackagesRun};
+ghost use Rattle.bk_rv_run_laws.specs.Edges.{WaysKeep, EdgesFollow};
 ghost use Rattle.bk_rv_run_laws.specs.Relation.{Image, Beside, IsBack, HasResults, riscv64, standing, RetEnds};
 ghost use Rattle.bk_rv_run_laws.specs.Within.{CallsReturn};
 
@@ -34,6 +35,13 @@ pub fn runs_are_followed()
 pub fn machines_meet_the_meaning()
     ensures { (blocks args words sp : ℕ) (w : World) (m : Machine) (r : Run (List ℕ)) →
         Follows riscv64 (List ℕ) blocks 0 w m (IsBack args words halt sp m) r → Meets riscv64 w.left blocks m (HasResults args sp) (ended r).0 (ended r).1 }
+{}
+
+/// A law: what the entry of a block wants is kept by ways that write x31 alone, as the ends of blocks are; and where the machine comes
+/// from the end of a block to another one, as its entry wants it, it follows the run from there on.
+pub fn edges_are_followed()
+    ensures ways { WaysKeep }
+    ensures edges { EdgesFollow }
 {}
 
 /// A law: where the machine follows runs from the entries of blocks, it follows calls, from the beginning of a function on, with its
