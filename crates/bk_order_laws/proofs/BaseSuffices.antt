@@ -4,10 +4,10 @@ use Rattle.std.proofs.lemmas.Bool.{cases_lt}
 use Rattle.bk_func.specs.Records.{ValueRecord, BlockRecord, FuncRecord}
 use Rattle.bk_func.specs.Form.States.{Names}
 use Rattle.bk_func.specs.Form.Before.{IsLoad, IsNilCheck, IsTakenBy, Needs, takes, through, IsListed, Checks, Loads, ComesBefore, argument, state, checks, needed, unneeded, Precedes, right, onward}
-use Rattle.bk_form_laws.specs.Base.{BaseBefore, BasePrecedes, AreInTurn}
-use Rattle.bk_form_laws.specs.Base as base
-use Rattle.bk_form_laws.proofs.Named.{to_in, in_got}
-use Rattle.bk_form_laws.proofs.BaseKept.{base_onward}
+use Rattle.bk_order_laws.specs.Base.{BaseBefore, BasePrecedes, AreInTurn}
+use Rattle.bk_order_laws.specs.Base as base
+use Rattle.bk_mean.proofs.Named.{to_in, in_got}
+use Rattle.bk_order_laws.proofs.First.{base_onward}
 
 -- a nil check u comes before a load v of its state, by the rules for loads
 record Late (f : FuncRecord) (b : BlockRecord) (u v : ValueRecord) (s : ℕ) : Type 0 where
