@@ -58,7 +58,7 @@ stands_once f h n m o t u = go n m t n u refl
         let r : x ≡ z = cc in
         go x y t z u r
 
-names_place : (s : Setting) (f : FuncRecord) → Standing s f → (b : BlockRecord) (v : ValueRecord) → HasValue f b v → (k j : ℕ) → NamesAt v k → NamesAt v j → k ≡ j
+pub names_place : (s : Setting) (f : FuncRecord) → Standing s f → (b : BlockRecord) (v : ValueRecord) → HasValue f b v → (k j : ℕ) → NamesAt v k → NamesAt v j → k ≡ j
 names_place s f h b v i k j (inl a) (inl c) = a.1 ∙ sym c.1
 names_place s f h b v i k j (inl a) (inr (inl c)) = a.1 ∙ sym c.1
 names_place s f h b v i k j (inl a) (inr (inr c)) = absurd (let q = (copy_args s f b v (h.rows b v i) a.0.0).1 in let d = c.0 in cc)
