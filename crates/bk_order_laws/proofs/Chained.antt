@@ -110,7 +110,7 @@ states_in_turn s f h b r x y (inl k) (inl q) = go ((h.states b (reached_block f 
     go : HasChain f b → InTurn f b x y
     go (inl none) = absurd (none x k)
     go (inr (ms, m, c, start)) = linked_pair s f h b r (ms ++ m ∷ []) c.linked (λ n i. (c.states n).0 (to_contains n (ms ++ m ∷ []) i)) x y
-      (to_in x (ms ++ m ∷ []) ((c.states x).1 k)) (to_in y (ms ++ m ∷ []) ((c.states y).1 q))
+        (to_in x (ms ++ m ∷ []) ((c.states x).1 k)) (to_in y (ms ++ m ∷ []) ((c.states y).1 q))
 states_in_turn s f h b r x y (inl k) (inr q) = go ((h.states b (reached_block f b r)).chain r)
   where
     go : HasChain f b → InTurn f b x y

@@ -1,6 +1,5 @@
 -- A state of a block comes before each value of the block that names it.
-use Rattle.std.proofs.Common.{◌≡◌, ℕ, refl, sym, ◌∙◌, subst, ◌⊎◌, inl, inr, Some}
-use Rattle.std.specs.Prelude.{slice_get}
+use Rattle.std.proofs.Common.{◌≡◌, ℕ, refl, sym, ◌∙◌, subst, ◌⊎◌, inl, inr}
 use Rattle.bk_ops.specs.declared.family.Family.TheVariants as op
 use Rattle.bk_func.specs.Records.{ValueRecord, BlockRecord, FuncRecord}
 use Rattle.bk_func.specs.Form.Text.{HasValue, IsPhi}
@@ -10,7 +9,7 @@ use Rattle.bk_func.specs.Form.Signatures.{Setting}
 use Rattle.bk_func.proofs.Faults.{In}
 use Rattle.bk_mean.proofs.Named.{to_contains, got_in}
 use Rattle.bk_mean.proofs.Dominance.{Dominates, dominates_itself, dominates_onward, one_dominates, defined_from, defined_here, home, arguments_defined}
-use Rattle.bk_order_laws.specs.Base.{BaseBefore, argument, BasePrecedes, right, onward}
+use Rattle.bk_order_laws.specs.Base.{argument, BasePrecedes, right, onward}
 use Rattle.bk_order_laws.proofs.Standing.{Standing, names_no_phi}
 
 pub base_onward : (f : FuncRecord) (b : BlockRecord) (t u v : ValueRecord) → BasePrecedes f b t u → BasePrecedes f b u v → BasePrecedes f b t v

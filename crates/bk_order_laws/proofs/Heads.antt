@@ -1,11 +1,11 @@
 -- The last state of a block, and the state at the end of a walk, are one each.
-use Rattle.std.proofs.Common.{◌≡◌, ℕ, refl, ap, sym, ◌∙◌, subst, ◌⊎◌, inl, inr, List, [], ◌∷◌, ◌++◌, ◌==◌, Bool, true, false, eq-eqb}
-use Rattle.std.specs.List.{AllByRecursion, IsDistinct}
+use Rattle.std.proofs.Common.{◌≡◌, ℕ, refl, sym, subst, inl, inr, List, [], ◌∷◌, ◌==◌, false, eq-eqb}
+use Rattle.std.specs.List.{AllByRecursion}
 use Rattle.std.proofs.lemmas.Map.Keys.{IsDistinct-head}
 use Rattle.bk_func.specs.Records.{ValueRecord, BlockRecord, FuncRecord}
 use Rattle.bk_func.specs.Form.Text.{HasValue}
-use Rattle.bk_func.specs.Form.Walks.{Walk, begin, onward, IsReached}
-use Rattle.bk_func.specs.Form.States.{IsState, IsStateOf, Names, IsLinked, first, more, IsChain, Carries, made, kept, IsFirstState}
+use Rattle.bk_func.specs.Form.Walks.{IsReached}
+use Rattle.bk_func.specs.Form.States.{IsStateOf, Names, IsLinked, first, more, IsChain, Carries, made, kept, IsFirstState}
 use Rattle.bk_func.specs.Form.Signatures.{Setting}
 use Rattle.bk_func.proofs.Faults.{In}
 use Rattle.bk_mean.proofs.Named.{to_in, to_contains}

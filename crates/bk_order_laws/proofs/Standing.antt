@@ -1,9 +1,7 @@
 -- What is known of a function that breaks no kind of form but perhaps the last.
-use Rattle.std.proofs.Common.{◌≡◌, ℕ, zero, suc, ◌+◌, refl, ap, sym, ◌∙◌, subst, arith, inl, inr, List, length, Some, Bool, true, false, ◌⊎◌}
+use Rattle.std.proofs.Common.{◌≡◌, ℕ, refl, ap, sym, ◌∙◌, subst, arith, inl, inr, Some}
 use Rattle.std.specs.Prelude.{slice_get}
-use Rattle.bk_ops.specs.Table.{info_of}
 use Rattle.bk_ops.specs.Families.{is_call_result}
-use Rattle.bk_ops.specs.declared.family.Family.TheVariants as op
 use Rattle.bk_func.specs.Records.{ValueRecord, BlockRecord, FuncRecord}
 use Rattle.bk_func.specs.declared.form.FormKind.{FormKind}
 use Rattle.bk_func.specs.declared.form.FormKind.TheVariants.{Missing, Arity, Ty, Use, Memory, Order}

@@ -1,11 +1,10 @@
 -- The states that nil checks, loads and results of a reached block name are in turn.
-use Rattle.std.proofs.Common.{◌≡◌, ℕ, zero, suc, ◌<◌, refl, ap, sym, ◌∙◌, subst, arith, ◌⊎◌, inl, inr, List, [], ◌∷◌, length, Some, Bool, true, false}
+use Rattle.std.proofs.Common.{◌≡◌, ℕ, zero, suc, ◌<◌, refl, ap, sym, ◌∙◌, subst, arith, ◌⊎◌, inl, inr, List, [], ◌∷◌, length, Some, true, false}
 use Rattle.std.specs.Prelude.{slice_get}
 use Rattle.bk_ops.specs.Families.{is_word_call, is_call_result, is_word_result}
 use Rattle.bk_ops.specs.declared.family.Family.{Family}
 use Rattle.bk_ops.specs.declared.family.Family.TheVariants as op
 use Rattle.bk_func.specs.Records.{ValueRecord, BlockRecord, FuncRecord}
-use Rattle.bk_func.specs.Numbers.{origin_of, result}
 use Rattle.bk_func.specs.Effects.{has_effect}
 use Rattle.bk_func.specs.Form.Text.{HasValue}
 use Rattle.bk_func.specs.Form.Walks.{IsReached}
@@ -18,7 +17,7 @@ use Rattle.bk_mean.proofs.Roles.{calls_result, result_families}
 use Rattle.bk_mean.proofs.Typed.{effect_is_state}
 use Rattle.bk_order_laws.specs.Base.{state, BasePrecedes, onward, AreInTurn, KeepsAllButOrder}
 use Rattle.bk_order_laws.proofs.Standing.{Standing, standing, stands_once, names_place, names_once, names_no_phi}
-use Rattle.bk_order_laws.proofs.Chained.{Follows, InTurn, reach_named, states_in_turn}
+use Rattle.bk_order_laws.proofs.Chained.{InTurn, reach_named, states_in_turn}
 
 got_below : (xs : List ℕ) (k x : ℕ) → slice_get xs k ≡ Some x → k < length xs
 got_below [] k x e = absurd cc
