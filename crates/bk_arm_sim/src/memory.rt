@@ -1,5 +1,7 @@
 //! Loads and stores.
-ghost use Rattle.std.specs.Prelude.{◌≡◌, ◌≤◌, ◌<◌, ◌^◌, IfSome};
+ghost use Rattle.std.specs.Prelude.{◌≡◌, ◌≤◌, ◌<◌, ◌+◌, ◌^◌, length, Some, None, IfSome, if◌then◌else◌};
+ghost use Rattle.std.specs.Bool.{OnFalse};
+ghost use Rattle.bk_num.specs.Memory.{write};
 ghost use Rattle.bk_arm_isa.specs.Machine.{load, loaded, stored};
 ghost use Rattle.bk_arm_sim.specs.View.{view};
 
@@ -10,19 +12,21 @@ use crate::registers::set;
 use bk_machine::Stop;
 use bk_num::{DATA_BASE, POOL_BASE, load_in, store_in};
 
-#[tactic(auto, unfolding(bk_num::specs::Memory::read))]
+// Each address is read in one window.
+#[tactic(auto, using(crate::proofs::Addressed::reads_stack, crate::proofs::Addressed::reads_data, crate::proofs::Addressed::reads_pool))]
 fn load(machine: &Machine, size: usize, address: u64) -> Option<u64>
-    requires { size ≤ 8 }
+    requires low { 1 ≤ size }
+    requires high { size ≤ 8 }
     ensures value { result ≡ load (view machine.now) size address }
     ensures bound { IfSome result (λ n. n < 256 ^ size) }
 {
-    if let Some(n) = load_in(POOL_BASE, &machine.pool, size, address) {
-        return Some(n);
+    if address >= machine.bottom {
+        load_in(machine.bottom, &machine.stack, size, address)
+    } else if address >= DATA_BASE {
+        load_in(DATA_BASE, &machine.window, size, address)
+    } else {
+        load_in(POOL_BASE, &machine.pool, size, address)
     }
-    if let Some(n) = load_in(DATA_BASE, &machine.window, size, address) {
-        return Some(n);
-    }
-    load_in(machine.bottom, &machine.stack, size, address)
 }
 
 /// Loads a register from `size` bytes at `rn` and an offset.
@@ -33,6 +37,7 @@ pub fn load_register(
     rn: u8,
     offset: u16,
 ) -> Option<Stop>
+    requires some { 1 ≤ size }
     requires size { size ≤ 4 }
     requires pc { machine.old.pc < 2 ^ 31 }
     ensures state { (result, view machine.new) ≡ loaded (view machine.old) size rt rn offset }
@@ -48,8 +53,30 @@ pub fn load_register(
     }
 }
 
+// Each address is written in one window; it answers whether the bytes lie whole in that.
+#[tactic(auto, using(crate::proofs::Addressed::writes_stack, crate::proofs::Addressed::writes_data))]
+fn store(
+    window: &mut [u8],
+    bottom: u64,
+    stack: &mut [u8],
+    size: usize,
+    address: u64,
+    n: u64,
+) -> bool
+    requires low { 1 ≤ size }
+    requires high { size ≤ 8 }
+    requires window { 67108864 + length window.old ≤ bottom }
+    ensures value { write window.old bottom stack.old size address n ≡ (if result then Some (window.new, stack.new) else None) }
+    ensures kept { OnFalse result ((window.new ≡ window.old) × (stack.new ≡ stack.old)) }
+{
+    if address >= bottom {
+        store_in(bottom, stack, size, address, n)
+    } else {
+        store_in(DATA_BASE, window, size, address, n)
+    }
+}
+
 /// Stores a register into `size` bytes at `rn` and an offset.
-#[tactic(auto, unfolding(bk_num::specs::Memory::write))]
 pub fn store_register(
     machine: &mut Machine,
     size: usize,
@@ -57,6 +84,7 @@ pub fn store_register(
     rn: u8,
     offset: u16,
 ) -> Option<Stop>
+    requires some { 1 ≤ size }
     requires size { size ≤ 4 }
     requires pc { machine.old.pc < 2 ^ 31 }
     ensures state { (result, view machine.new) ≡ stored (view machine.old) size rt rn offset }
@@ -64,9 +92,14 @@ pub fn store_register(
 {
     let address = plus(reg(&machine.regs, rn), offset as i64) as u64;
     let n = reg(&machine.regs, rt) as u64;
-    if store_in(DATA_BASE, &mut machine.window, size, address, n)
-        || store_in(machine.bottom, &mut machine.stack, size, address, n)
-    {
+    if store(
+        &mut machine.window,
+        machine.bottom,
+        &mut machine.stack,
+        size,
+        address,
+        n,
+    ) {
         machine.pc += 4;
         None
     } else {

@@ -5,7 +5,7 @@ use Rattle.std.proofs.lemmas.Bool.Decides.{nat_tests}
 use Rattle.std.proofs.lemmas.Int.{ints}
 use Rattle.bk_num.specs.Word.{residue}
 use Rattle.bk_num.specs.Bytes.{written}
-use Rattle.bk_num.proofs.Bytes.{length-written}
+use Rattle.bk_num.proofs.Bytes.{length-written, store_there}
 use Rattle.bk_num.proofs.Signs.{residue_below}
 use Rattle.bk_rv_isa.specs.declared.inst.ImmediateOp.TheVariants.{Addi}
 use Rattle.bk_rv_isa.specs.declared.inst.RegisterOp.TheVariants.{Sub}
@@ -22,6 +22,7 @@ use Rattle.bk_rv_emit.specs.Blocks.{below, is_short, frame_bytes, guard, entry}
 use Rattle.bk_rv_emit.specs.Words.{is_near, store_by}
 use Rattle.bk_rv_emit.specs.Numbers.{upper, lower}
 use Rattle.bk_rv_emit_laws.specs.Leaving.{IsWell, Path, Leaves}
+use Rattle.bk_rv_emit_laws.specs.Octets.{AreBytes}
 use Rattle.bk_rv_emit_laws.specs.Calls.{HasLeft, Enters, EntryEnters, EntryTraps}
 use Rattle.bk_rv_emit_laws.proofs.Paths as P
 use Rattle.bk_rv_emit_laws.proofs.Words.{plus_none}
@@ -29,6 +30,7 @@ use Rattle.bk_rv_emit_laws.proofs.Constants.{address}
 use Rattle.bk_rv_emit_laws.proofs.Families.{ahead, scratch_some}
 use Rattle.bk_rv_emit_laws.proofs.Effects.{trap_behind}
 use Rattle.bk_rv_emit_laws.proofs.Slots.{same_load}
+use Rattle.bk_rv_emit_laws.proofs.Below.{stores_are_bytes}
 use Rattle.bk_rv_emit_laws.proofs.Far.{long_base, base_leaves, long_word}
 
 -- what writes x31 alone writes no other register
@@ -127,6 +129,7 @@ saves f sp left base z m n p pl l es e2 low high at h pc =
       window = k.window;
       bottom = k.bottom;
       long = length-written n.bottom 8 a ra n.stack there inside ∙ ks;
+      bytes = λ q. stores_are_bytes n.bottom 8 a ra n.stack stack (subst AreBytes (sym k.stack) q) (store_there n.bottom 8 a ra n.stack there inside);
     }
   where
     beside : (width x : ℕ) → (x + width ≤ reg m.regs 2 - 8) ⊎ (reg m.regs 2 ≤ x) → (x + width ≤ sp - 8) ⊎ (sp - 8 + 8 ≤ x)

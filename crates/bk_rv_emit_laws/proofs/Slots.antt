@@ -39,7 +39,7 @@ same_load d m n width a k =
     ∙ ap (λ b. read m.pool m.window b n.stack width a) k.bottom
     ∙ ap (λ s. read m.pool m.window m.bottom s width a) k.stack
 
-same_frame : (f : Frame) (sp d : ℕ) (m n : Machine) → d ≢ 2 → IsFrame f sp m → Keeps d m n → IsFrame f sp n
+pub same_frame : (f : Frame) (sp d : ℕ) (m n : Machine) → d ≢ 2 → IsFrame f sp m → Keeps d m n → IsFrame f sp n
 same_frame f sp d m n h g k =
     let p = g.placed in
     let pl = ap length k.pool in

@@ -7,6 +7,7 @@ use Rattle.bk_fixup.specs.Patches.{distance}
 use Rattle.bk_rv_emit.specs.Blocks.{entry, leave}
 use Rattle.bk_rv_emit.specs.Numbers.{upper, lower}
 use Rattle.bk_rv_emit_laws.specs.Leaving.{IsWell, Path}
+use Rattle.bk_rv_emit_laws.specs.Octets.{AreBytes}
 use Rattle.bk_rv_emit_laws.specs.Windows.{Traps}
 
 -- the frame of a function was made: the stack pointer is below by its bytes, the return address in its last word
@@ -25,6 +26,7 @@ pub record Enters (f : ℕ) (m : Machine) : Type 0 where
   pub window : after.window ≡ m.window
   pub bottom : after.bottom ≡ m.bottom
   pub long : length after.stack ≡ length m.stack
+  pub bytes : AreBytes m.stack → AreBytes after.stack
 
 -- the stack pointer and the bound of the stack, which has so many bytes left
 pub record HasLeft (m : Machine) (stack : ℕ) : Type 0 where

@@ -1,2 +1,6 @@
 pub mod Ret
 pub mod Besides
+pub mod Opening
+pub mod Starting
+pub mod Returning
+pub mod Crossing

@@ -1,1 +1,4 @@
 pub mod Relation
+pub mod Calling
+pub mod Within
+pub mod Edges

@@ -11,6 +11,7 @@ use Rattle.bk_rv_emit_laws.specs.Leaving.{IsWell}
 use Rattle.bk_rv_emit_laws.specs.Octets.{AreBytes}
 use Rattle.bk_rv_emit_laws.specs.Frames.{IsFrame, Holds}
 use Rattle.bk_rv_emit_laws.specs.Steps.{IsSpot}
+use Rattle.bk_rv_emit_laws.specs.Calls.{HasLeft}
 use Rattle.bk_run_laws.specs.Follows.{System, Ends}
 use Rattle.bk_run_laws.specs.Standing.{Standing}
 
@@ -64,10 +65,9 @@ pub record HasBytes (m : Machine) : Type 0 where
   pub stack : AreBytes m.stack
   pub pool : AreBytes m.pool
 
--- the machine is at the entry of a block in a call: its frame is at the stack pointer with the return address in its last word,
--- places hold the numbers of values, and the words of its arguments and results begin behind the frame
-pub record IsUnderWay (x : Image) (p : Program) (i : ℕ) (f : FuncRecord) (id : ℕ) (a : Activation) (d : List ℕ) (call : Call) (m : Machine) : Type 0 where
-  pub pc : m.pc ≡ (x.shape i).address id
+-- the machine has a call under way, as the entry of a block wants it: the call's frame is at the stack pointer with the return
+-- address in its last word, places hold the numbers of values, and the words of its arguments and results begin behind the frame
+pub record IsIn (x : Image) (p : Program) (i : ℕ) (f : FuncRecord) (id : ℕ) (a : Activation) (d : List ℕ) (call : Call) (m : Machine) : Type 0 where
   pub text : m.text ≡ x.text
   pub pool : m.pool ≡ x.pool
   pub bytes : HasBytes m
@@ -76,13 +76,17 @@ pub record IsUnderWay (x : Image) (p : Program) (i : ℕ) (f : FuncRecord) (id :
   pub held : Holds (x.shape i).frame call.sp m holds
   pub values : AreHeld (x.shape i).frame ((x.shape i).at id) (numbers p f a.env) holds
   pub window : m.window ≡ d
-  pub bound : reg m.regs 27 ≡ m.bottom
-  pub left : call.sp ≡ m.bottom + a.stack
+  pub left : HasLeft m a.stack
   pub return : load m 8 (call.sp + (x.shape i).frame.bytes - 8) ≡ Some call.home
   pub home : IsReturn call.home
   pub given : HasWords m (call.sp + (x.shape i).frame.bytes) ((x.shape i).given id) (slice_index a.env.args)
   pub out : HasWords m call.sp ((x.shape i).out id) a.out
   pub back : HasWords m (call.sp + (x.shape i).frame.bytes) ((x.shape i).back id) a.back
+
+-- and is there
+pub record IsUnderWay (x : Image) (p : Program) (i : ℕ) (f : FuncRecord) (id : ℕ) (a : Activation) (d : List ℕ) (call : Call) (m : Machine) : Type 0 where
+  pub pc : m.pc ≡ (x.shape i).address id
+  pub inside : IsIn x p i f id a d call m
 
 -- the words of results: the first eight in x10 to x17, the others in memory behind the words of arguments
 pub record HasResults (args sp : ℕ) (results : List ℕ) (n : Machine) : Type 0 where

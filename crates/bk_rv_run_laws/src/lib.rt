@@ -7,7 +7,10 @@ ghost use Rattle.bk_func.specs.Numbers.{Program};
 ghost use Rattle.bk_rv_isa.specs.Machine.{Machine, halt};
 ghost use Rattle.bk_run_laws.specs.Follows.{Follows, Meets};
 ghost use Rattle.bk_run_laws.specs.Standing.{ArePlaces, OneBlock, BlockLaw};
+ghost use Rattle.bk_rv_run_laws.specs.Calling.{CallsFollow, PackagesRun};
+ghost use Rattle.bk_rv_run_laws.specs.Edges.{WaysKeep, EdgesFollow};
 ghost use Rattle.bk_rv_run_laws.specs.Relation.{Image, Beside, IsBack, HasResults, riscv64, standing, RetEnds};
+ghost use Rattle.bk_rv_run_laws.specs.Within.{CallsReturn};
 
 /// A law: a block that ends with a return comes back from its call, with its results and with memory beside its words as before.
 pub fn returns_come_back()
@@ -32,4 +35,29 @@ pub fn runs_are_followed()
 pub fn machines_meet_the_meaning()
     ensures { (blocks args words sp : ℕ) (w : World) (m : Machine) (r : Run (List ℕ)) →
         Follows riscv64 (List ℕ) blocks 0 w m (IsBack args words halt sp m) r → Meets riscv64 w.left blocks m (HasResults args sp) (ended r).0 (ended r).1 }
+{}
+
+/// A law: what the entry of a block wants is kept by ways that write x31 alone, as the ends of blocks are; and where the machine comes
+/// from the end of a block to another one, as its entry wants it, it follows the run from there on.
+pub fn edges_are_followed()
+    ensures ways { WaysKeep }
+    ensures edges { EdgesFollow }
+{}
+
+/// A law: where the machine follows runs from the entries of blocks, it follows calls, from the beginning of a function on, with its
+/// arguments in registers and in the stack: it traps where the frame exceeds the stack that is left, else it comes to the first block.
+pub fn calls_are_followed()
+    ensures { CallsFollow }
+{}
+
+/// A law: then the machine follows a call that stands in a frame, too; where it comes back the machine is behind it, its results are
+/// there, and the words of the frame hold what they held.
+pub fn calls_come_back()
+    ensures { CallsReturn }
+{}
+
+/// A law: where the machine follows each block of a package, then from its start at a function, with arguments and a stack, it does
+/// what the meaning of the call says, for every bound of blocks.
+pub fn packages_run()
+    ensures { PackagesRun }
 {}

@@ -1,4 +1,6 @@
-ghost use Rattle.std.specs.Prelude.{◌≡◌, ◌≤◌, ◌<◌, ◌^◌, ◌+◌, length, Some, None, IsSome};
+ghost use Rattle.std.specs.Prelude.{◌≡◌, ◌≤◌, ◌<◌, ◌^◌, ◌+◌, length, Some, None, IsSome, if◌then◌else◌};
+ghost use Rattle.std.specs.Bool.{OnFalse};
+ghost use Rattle.bk_num.specs.Memory.{write};
 ghost use Rattle.bk_rv_isa.specs.declared.inst.Inst.TheVariants.{Ebreak};
 ghost use Rattle.bk_rv_isa.specs.Machine.{reg, put, fetch, load, load_size, load_result, store_size, with_reg, on_load, on_store, store, act, step, run};
 ghost use Rattle.bk_rv_sim.specs.View.{view, ended};
@@ -46,18 +48,20 @@ fn fetch(known: &mut Known, text: &[u32], pc: u64) -> Option<Inst>
     known.decode(place, *word)
 }
 
-#[tactic(auto, unfolding(bk_num::specs::Memory::read))]
+// Each address is read in one window.
+#[tactic(auto, using(crate::proofs::Addressed::reads_stack, crate::proofs::Addressed::reads_data, crate::proofs::Addressed::reads_pool))]
 fn load(machine: &Machine, size: usize, address: u64) -> Option<u64>
-    requires { size ≤ 8 }
+    requires low { 1 ≤ size }
+    requires high { size ≤ 8 }
     ensures { result ≡ load (view machine.now) size address }
 {
-    if let Some(n) = load_in(POOL_BASE, &machine.pool, size, address) {
-        return Some(n);
+    if address >= machine.bottom {
+        load_in(machine.bottom, &machine.stack, size, address)
+    } else if address >= DATA_BASE {
+        load_in(DATA_BASE, &machine.window, size, address)
+    } else {
+        load_in(POOL_BASE, &machine.pool, size, address)
     }
-    if let Some(n) = load_in(DATA_BASE, &machine.window, size, address) {
-        return Some(n);
-    }
-    load_in(machine.bottom, &machine.stack, size, address)
 }
 
 // A register and the next pc.
@@ -84,16 +88,43 @@ fn load_register(machine: &mut Machine, op: LoadOp, rd: u8, address: u64) -> Opt
     }
 }
 
-#[tactic(auto, unfolding(bk_num::specs::Memory::write))]
+// Each address is written in one window; it answers whether the bytes lie whole in that.
+#[tactic(auto, using(crate::proofs::Addressed::writes_stack, crate::proofs::Addressed::writes_data))]
+fn store(
+    window: &mut [u8],
+    bottom: u64,
+    stack: &mut [u8],
+    size: usize,
+    address: u64,
+    n: u64,
+) -> bool
+    requires low { 1 ≤ size }
+    requires high { size ≤ 8 }
+    requires window { 67108864 + length window.old ≤ bottom }
+    ensures value { write window.old bottom stack.old size address n ≡ (if result then Some (window.new, stack.new) else None) }
+    ensures kept { OnFalse result ((window.new ≡ window.old) × (stack.new ≡ stack.old)) }
+{
+    if address >= bottom {
+        store_in(bottom, stack, size, address, n)
+    } else {
+        store_in(DATA_BASE, window, size, address, n)
+    }
+}
+
 fn store_register(machine: &mut Machine, op: StoreOp, address: u64, n: u64) -> Option<Stop>
     requires { machine.old.pc < 2 ^ 32 }
     ensures state { (result, view machine.new) ≡ on_store (view machine.old) address (store (view machine.old) (store_size op) address n) }
     ensures sig { machine.new.sig ≡ machine.old.sig }
 {
     let size = store_size(op);
-    if store_in(DATA_BASE, &mut machine.window, size, address, n)
-        || store_in(machine.bottom, &mut machine.stack, size, address, n)
-    {
+    if store(
+        &mut machine.window,
+        machine.bottom,
+        &mut machine.stack,
+        size,
+        address,
+        n,
+    ) {
         machine.pc += 4;
         None
     } else {

@@ -80,6 +80,7 @@ pub fn shift_result(op: ShiftOp, x: u64, count: u8) -> u64
 /// The bytes that a load reads.
 pub fn load_size(op: LoadOp) -> usize
     ensures value { result ≡ load_size op }
+    ensures some { 1 ≤ result }
     ensures bound { result ≤ 8 }
 {
     match op {
@@ -105,6 +106,7 @@ pub fn load_result(op: LoadOp, n: u64) -> u64
 /// The bytes that a store writes.
 pub fn store_size(op: StoreOp) -> usize
     ensures value { result ≡ store_size op }
+    ensures some { 1 ≤ result }
     ensures bound { result ≤ 8 }
 {
     match op {
