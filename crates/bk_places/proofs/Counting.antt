@@ -1,5 +1,5 @@
 -- How often lists have a place, and numbers that are counted down.
-use Rattle.std.proofs.Common.{◌≡◌, ℕ, ◌+◌, ◌-◌, ◌<◌, ◌≤◌, refl, ap, sym, ◌∙◌, subst, arith, ◌⊎◌, inl, inr, List, [], ◌∷◌, ◌++◌, length, cond, ◌==◌, eq-eqb, ne_eqb, get_or, take, drop, append_assoc, append-nil, length-append}
+use Rattle.std.proofs.Common.{◌≡◌, ℕ, ◌+◌, ◌-◌, ◌<◌, ◌≤◌, refl, ap, sym, ◌∙◌, subst, arith, ◌⊎◌, inl, inr, List, [], ◌∷◌, ◌++◌, length, eq-eqb, ne_eqb, get_or, take, drop, append_assoc, append-nil, length-append}
 use Rattle.std.specs.Prelude.{slice_index, slice_set, sum_by}
 use Rattle.std.specs.List.{Contains, range_with_len}
 use Rattle.std.proofs.lemmas.Bool.{cases_eq}

@@ -1,6 +1,6 @@
 -- Places in turn, with the set of those that are ready.
-use Rattle.std.proofs.Common.{◌≡◌, ℕ, ◌+◌, ◌-◌, ◌<◌, ◌≤◌, refl, ap, sym, ◌∙◌, subst, arith, ◌⊎◌, ◌↔◌, inl, inr, List, [], ◌∷◌, ◌++◌, length, Bool, true, false, cond, ◌==◌, eq-eqb, ne_eqb, get_or, take, drop, append_assoc, append-nil}
-use Rattle.std.specs.Prelude.{slice_index, slice_set, sum_by}
+use Rattle.std.proofs.Common.{◌≡◌, ℕ, ◌+◌, ◌<◌, ◌≤◌, refl, ap, sym, ◌∙◌, subst, arith, ◌⊎◌, ◌↔◌, inl, inr, List, [], ◌∷◌, ◌++◌, length, Bool, true, false, cond, get_or, take, append_assoc, append-nil}
+use Rattle.std.specs.Prelude.{slice_index}
 use Rattle.std.specs.List.{Contains, list_any, range_with_len}
 use Rattle.std.specs.Ordering.{nat_cmp, is_eq, is_gt, ordering_then}
 use Rattle.std.specs.Cmp.{nat_cmp_is}
@@ -10,12 +10,10 @@ use Rattle.std.specs.BTreeSet.{BTreeSet, contains}
 use Rattle.std.specs.BTreeMap.{is_at}
 use Rattle.std.proofs.lemmas.Bool.{cases_eq, cases_lt}
 use Rattle.std.proofs.lemmas.Cmp.{ranked}
-use Rattle.std.proofs.lemmas.List.{take_more, take_all, drop_all, get_or-set_same, get_or-set_other}
 use Rattle.std.proofs.lemmas.List.Elements.{Contains-get_or}
-use Rattle.std.proofs.lemmas.List.Sums.{sum_by-cons, sum_by_more, sum_by_more_le}
 use Rattle.bk_func.proofs.Faults.{In}
 use Rattle.bk_sched.specs.declared.turns.Turn.{Turn}
-use Rattle.bk_places.proofs.Elements.{to_in, to_contains, in_left, in_right, in_either}
+use Rattle.bk_places.proofs.Elements.{to_in, to_contains, in_left, in_right}
 use Rattle.bk_sched.specs.Turns.{StaysWithin}
 use Rattle.bk_places.specs.Search.{IsEdge}
 use Rattle.bk_sched.specs.Turns.{AreReady, IsDue, IsFree, Released, Turned, done, next, has_turn, turn_cmp}
