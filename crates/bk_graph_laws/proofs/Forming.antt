@@ -25,7 +25,7 @@ use Rattle.bk_graph.specs.Nodes.{NodeRecord, node_at, nodes_from, offsets_from, 
 use Rattle.bk_graph.specs.Rebuilt.{behind, offset_of}
 use Rattle.bk_graph.specs.Tables.{Tables, tables_of, edges_to, args_of, control_of}
 use Rattle.bk_graph.proofs.Listed.{one_counted, counted_at}
-use Rattle.bk_mean.proofs.Named.{to_in, to_contains}
+use Rattle.bk_places.proofs.Elements.{to_in, to_contains}
 use Rattle.bk_mean.proofs.Formed.{Sound, sound}
 use Rattle.bk_mean.proofs.Ranks.{rank as depth, argument_falls}
 use Rattle.bk_mean.proofs.Edges.{edges_meet}

@@ -16,7 +16,7 @@ use Rattle.bk_func.specs.Form.Before.{Needs}
 use Rattle.bk_func.specs.Form.Signatures.{Setting}
 use Rattle.bk_func.proofs.Faults.{In}
 use Rattle.bk_func.proofs.Needs.{found_in}
-use Rattle.bk_mean.proofs.Named.{to_contains}
+use Rattle.bk_places.proofs.Elements.{to_contains}
 use Rattle.bk_mean.proofs.Dominance.{reached_block}
 use Rattle.bk_mean.proofs.Formed.{Sound}
 use Rattle.bk_mean.proofs.Steady.{Agree, Differs, steady, steady_before}

@@ -16,7 +16,8 @@ use Rattle.bk_func.specs.Form.Signatures.{Setting}
 use Rattle.bk_func.proofs.Faults.{In}
 use Rattle.bk_func.proofs.Flat.{Laid}
 use Rattle.bk_mean.specs.Arranged.{Due, Later, by_level, by_class, by_place, anytime, class_of, level_in, due_of, TakesAt, Filled, none, put}
-use Rattle.bk_mean.proofs.Named.{to_in, to_contains, got_in, in_left, in_right, in_got, in_either}
+use Rattle.bk_places.proofs.Elements.{to_in, to_contains, in_left, in_right, in_either}
+use Rattle.bk_mean.proofs.Named.{got_in, in_got}
 use Rattle.bk_mean.proofs.Dominance.{reached_block}
 use Rattle.bk_mean.proofs.Formed.{Sound}
 use Rattle.bk_mean.proofs.Follows.{chain_complete, numbers_of, IsMet}

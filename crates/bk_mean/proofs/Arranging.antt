@@ -1,21 +1,24 @@
 -- The order of a block's places as it is filled, with the set of those that are free.
-use Rattle.std.proofs.Common.{◌≡◌, ℕ, zero, suc, ◌+◌, ◌<◌, ◌≤◌, refl, ap, sym, ◌∙◌, subst, arith, ◌⊎◌, ◌↔◌, inl, inr, List, [], ◌∷◌, ◌++◌, length, Option, Some, true, false, get_or, take, drop, append_assoc, append-nil, length-append, reverse}
-use Rattle.std.specs.Prelude.{sum_by, slice_index}
+use Rattle.std.proofs.Common.{◌≡◌, ℕ, zero, suc, ◌+◌, ◌<◌, ◌≤◌, refl, ap, sym, ◌∙◌, subst, arith, ◌⊎◌, ◌↔◌, inl, inr, List, [], ◌∷◌, ◌++◌, length, Option, Some, true, false, get_or, reverse}
+use Rattle.std.specs.Prelude.{slice_index}
 use Rattle.std.specs.List.{Contains, list_any, range_with_len}
 use Rattle.std.specs.Ordering.{is_lt}
 use Rattle.std.specs.BTreeSet.{BTreeSet}
 use Rattle.std.specs.BTreeMap.{is_at}
-use Rattle.std.proofs.lemmas.List.{take_all, drop_all, reverse-append}
+use Rattle.std.proofs.lemmas.List.{reverse-append}
 use Rattle.std.proofs.lemmas.Bool.{cases_eq, cases_lt}
-use Rattle.std.proofs.lemmas.List.Sums.{sum_by-cons}
 use Rattle.bk_func.proofs.Faults.{In}
+use Rattle.bk_places.specs.Counts.{count_in, total_in}
+use Rattle.bk_places.proofs.Counting.{sum_range}
+use Rattle.bk_places.proofs.Leaving.{Edge, behind, led_from, left_of, left_under, all_new, range_all, some_count, count_cut}
 use Rattle.bk_mean.specs.declared.arrange.Due.{Due}
 use Rattle.bk_mean.specs.Arranged as meant
 use Rattle.bk_mean.specs.Arranged.{Later, Filled, none, put}
-use Rattle.bk_mean.specs.Dues.{seen_due, coded_due, due_in, due_cmp, has_due, AllDue, DuesOfPlaces, FallsBy, StaysWithin, AreFree, Released, count_in, taken_in, total_in}
-use Rattle.bk_mean.proofs.Named.{to_in, to_contains, got_in, in_either}
-use Rattle.bk_mean.proofs.Positions.{got_get_or}
-use Rattle.bk_mean.proofs.Freeing.{Filling, filling_start, filling_more, filling_end, HasFree, Freed, free_more, free_end, Takes, taken_at, taken_by, left_of, left_under, all_new, range_all, some_count, count_cut, cut}
+use Rattle.bk_mean.specs.Dues.{seen_due, coded_due, due_in, due_cmp, has_due, AllDue, DuesOfPlaces, FallsBy, StaysWithin, AreFree, Released, taken_in}
+use Rattle.bk_places.proofs.Elements.{to_in, to_contains, in_either}
+use Rattle.bk_places.proofs.Positions.{got_get_or}
+use Rattle.bk_mean.proofs.Named.{got_in}
+use Rattle.bk_mean.proofs.Freeing.{Filling, filling_start, filling_more, filling_end, HasFree, Freed, free_more, free_end}
 use Rattle.bk_mean.proofs.Releasing.{due_later}
 
 -- what is filled under one relation is filled under another that is the same
@@ -34,27 +37,11 @@ pub record State (dues : List (Option Due)) (takes : List (List ℕ)) (order use
 
 -- the start
 
-get_middle : (pre : List (List ℕ)) (t : List ℕ) (ts : List (List ℕ)) → get_or (pre ++ t ∷ ts) (length pre) [] ≡ t
-get_middle [] t ts = refl
-get_middle (p ∷ pre) t ts = get_middle pre t ts
-
-sum_range : (g : List ℕ → ℕ) (pre ts : List (List ℕ)) (a : ℕ) → length pre ≡ a → sum_by (λ x. g (get_or (pre ++ ts) x [])) (range_with_len a (length ts)) ≡ sum_by g ts
-sum_range g pre [] a e = refl
-sum_range g pre (t ∷ ts) a e =
-    let s = sum_by-cons (λ (x : ℕ). g (get_or (pre ++ t ∷ ts) x [])) a (range_with_len (a + 1) (length ts)) in
-    let k = sum_by-cons g t ts in
-    let l : length (pre ++ t ∷ []) ≡ a + 1 = (let q = length-append pre (t ∷ []) in omega (arith, q, e)) in
-    let r = sum_range g (pre ++ t ∷ []) ts (a + 1) l in
-    let P : List (List ℕ) → Type 0 = λ zs. sum_by (λ x. g (get_or zs x [])) (range_with_len (a + 1) (length ts)) ≡ sum_by g ts in
-    let rest = subst P (append_assoc pre (t ∷ []) ts) r in
-    let h : g (get_or (pre ++ t ∷ ts) a []) ≡ g t = ap (λ k. g (get_or (pre ++ t ∷ ts) k [])) (sym e) ∙ ap g (get_middle pre t ts) in
-    omega (arith, s, k, rest, h)
-
 pub state_start : (dues : List (Option Due)) (takes : List (List ℕ)) (uses : List ℕ) (free : BTreeSet Due) → length takes ≡ length dues → length uses ≡ length dues → StaysWithin (length dues) takes →
     ((y : ℕ) → slice_index uses y ≡ total_in takes y) → AreFree dues uses (length dues) free → State dues takes [] uses free
 state_start dues takes uses free l size within counts are = record {
   filling = filling_start (due_in dues) takes (length dues) uses size
-      (λ y h. counts y ∙ sym (sum_range (count_in y) [] takes 0 refl) ∙ ap (λ n. taken_by takes (range_with_len 0 n) y) l)
+      (λ y h. counts y ∙ sym (sum_range (count_in y) [] takes 0 refl) ∙ ap (λ n. led_from takes (range_with_len 0 n) y) l)
       (λ x y h t. within.within x y (to_contains y (taken_in takes x) t));
   frees = λ d. (
     λ k.
@@ -118,23 +105,15 @@ state_more dues takes order uses rest free mid now last places s e greatest popp
         let h = (s.frees d).1 (subst P (sym k) (i, q, z)) in
         due_later last (coded_due d) (greatest d h) (λ x. n (sym k ∙ ap (λ (c : Due). c.place) (sym x)))
 
-    freed : Freed (due_in dues) (taken_at takes last.place) rest (has_due free) (has_due now) (seen_due last)
+    freed : Freed (due_in dues) (behind takes last.place) rest (has_due free) (has_due now) (seen_due last)
     freed = record {
       kept = λ q h n. (r.each q).1 (inl ((popped q).1 (h, n)));
       freed = λ q i t z. (r.each q).1 (inr (to_contains q.place (taken_in takes last.place) i, t, z));
-      only = λ q h. elim ((r.each q).0 h) as (λ _. ((has_due free q ≡ true) × ¬ (q ≡ seen_due last)) ⊎ (In q.place (taken_at takes last.place) × (due_in dues q.place ≡ Some q) × (slice_index rest q.place ≡ 0))) [
+      only = λ q h. elim ((r.each q).0 h) as (λ _. ((has_due free q ≡ true) × ¬ (q ≡ seen_due last)) ⊎ (In q.place (behind takes last.place) × (due_in dues q.place ≡ Some q) × (slice_index rest q.place ≡ 0))) [
         | inl k ↦ inl ((popped q).0 k)
         | inr k ↦ inr (to_in q.place (taken_in takes last.place) k.0, k.1, k.2)
       ];
     }
-
--- fewer are left then
-pub left_shorter : (n : ℕ) (order : List ℕ) (p : ℕ) → In p (left_of n order) → length (left_of n (order ++ p ∷ [])) < length (left_of n order)
-left_shorter n order p i =
-    let c = cut n order p i in
-    let a = ap length c.before ∙ length-append c.front (p ∷ c.back) in
-    let b = ap length c.after ∙ length-append c.front c.back in
-    omega (arith, a, b)
 
 -- the end
 pub state_end : (dues : List (Option Due)) (takes : List (List ℕ)) (order uses : List ℕ) (free : BTreeSet Due) → DuesOfPlaces dues → State dues takes order uses free → ((d : meant.Due) → has_due free d ≡ false) → AllDue dues →
@@ -142,13 +121,7 @@ pub state_end : (dues : List (Option Due)) (takes : List (List ℕ)) (order uses
 state_end dues takes order uses free places s out all r falls =
     let e = free_end (due_in dues) takes (length dues) order uses (has_due free) s.filling s.frees places.own all r (λ x y t. falls x y (to_contains y (taken_in takes x) t)) out in
     let g = filling_end (due_in dues) takes (length dues) order uses s.filling e in
-    filled_as (due_in dues) (Takes takes) (λ x y. Contains (taken_in takes x) y) (λ x y t. to_contains y (taken_in takes x) t) (λ x y c. to_in y (taken_in takes x) c) (range_with_len 0 (length dues)) (reverse order) g
-
--- lists that are put together
-
-pub with_same : (n : ℕ) (new old : List ℕ) → length new ≡ length old → length old ≡ n → take n (new ++ drop (length new) old) ≡ new
-with_same n new old e l =
-    ap (λ xs. take n (new ++ xs)) (drop_all (length new) old (omega (arith, e))) ∙ ap (take n) (append-nil new) ∙ take_all n new (omega (arith, e, l))
+    filled_as (due_in dues) (Edge takes) (λ x y. Contains (taken_in takes x) y) (λ x y t. to_contains y (taken_in takes x) t) (λ x y c. to_in y (taken_in takes x) c) (range_with_len 0 (length dues)) (reverse order) g
 
 in_reverse : (x : ℕ) (xs : List ℕ) → In x (reverse xs) → In x xs
 in_reverse x [] i = elim i [ ]
@@ -168,7 +141,3 @@ low_reverse n order h list e k d l =
 -- a set without keys has no due
 pub none_has : (free : BTreeSet Due) → free.keys ≡ [] → (d : meant.Due) → has_due free d ≡ false
 none_has free e d = ap (λ ks. list_any (is_at (due_cmp (coded_due d))) ks) e
-
-pub no_keys : (ks : List Due) → ¬ (0 < length ks) → ks ≡ []
-no_keys [] n = refl
-no_keys (k ∷ ks) n = absurd (n (omega arith))

@@ -13,7 +13,7 @@ use Rattle.bk_func.specs.Form.States.{IsState, IsStateOf, NamesAt, Names, IsLink
 use Rattle.bk_func.specs.Form.Before.{Needs}
 use Rattle.bk_func.specs.Form.Signatures.{Setting}
 use Rattle.bk_func.proofs.Faults.{In}
-use Rattle.bk_mean.proofs.Named.{to_in, to_contains}
+use Rattle.bk_places.proofs.Elements.{to_in, to_contains}
 use Rattle.bk_mean.proofs.Dominance.{reached_block}
 use Rattle.bk_mean.proofs.Roles.{only_mem, init_args, phi_no_memory}
 use Rattle.bk_mean.proofs.Typed.{no_effect, init_memory}

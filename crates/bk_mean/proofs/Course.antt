@@ -11,7 +11,8 @@ use Rattle.bk_func.specs.Form.Walks.{begin, IsReached}
 use Rattle.bk_func.specs.Form.States.{IsState, IsStateOf, Names, IsLinked, first, more, Carries, IsFirstState, IsStateIn}
 use Rattle.bk_func.specs.Form.Signatures.{Setting}
 use Rattle.bk_func.proofs.Faults.{In}
-use Rattle.bk_mean.proofs.Named.{to_in, to_contains, id_in}
+use Rattle.bk_places.proofs.Elements.{to_in, to_contains}
+use Rattle.bk_mean.proofs.Named.{id_in}
 use Rattle.bk_mean.proofs.Dominance.{reached_block}
 use Rattle.bk_mean.proofs.Typed.{effect_is_state, named_effect, no_effect}
 use Rattle.bk_mean.proofs.Formed.{Sound}

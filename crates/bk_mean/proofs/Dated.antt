@@ -15,7 +15,7 @@ use Rattle.bk_mean.specs.Arranged.{class_of, level_in, due_by}
 use Rattle.bk_mean.specs.Dues.{seen_at, due_in}
 use Rattle.bk_mean.specs.Memories.{state_place, walked, followed_by, next_place, states_of, place_due}
 use Rattle.bk_mean.proofs.Firsts.{position-map}
-use Rattle.bk_mean.proofs.Positions.{get_or_got}
+use Rattle.bk_places.proofs.Positions.{get_or_got}
 use Rattle.bk_mean.proofs.Standing.{got_right}
 
 -- an op that gives no result names memory by its last argument

@@ -27,7 +27,8 @@ use Rattle.bk_mean.specs.declared.step.After.{After}
 use Rattle.bk_mean.specs.declared.step.After.TheVariants.{On, Trap, Wild, Call}
 use Rattle.bk_mean.specs.declared.step.CallWords.{CallWords}
 use Rattle.bk_mean.specs.declared.ready.ReadyValue.{ReadyValue}
-use Rattle.bk_mean.proofs.Named.{found_value, to_in}
+use Rattle.bk_places.proofs.Elements.{to_in}
+use Rattle.bk_mean.proofs.Named.{found_value}
 use Rattle.bk_mean.proofs.Dominance.{defined_here}
 use Rattle.bk_mean.proofs.Roles.{load_args, check_args, copy_args, same_copies, no_phi, result_families}
 use Rattle.bk_mean.proofs.Formed.{Sound, sound}

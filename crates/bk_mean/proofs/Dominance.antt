@@ -8,7 +8,8 @@ use Rattle.bk_func.specs.Form.Text.{HasBlock, HasValue, Defines, IsEntry, IsPhi}
 use Rattle.bk_func.specs.Form.Walks.{Walk, begin, onward, IsReached, Passes, IsDefinedAt}
 use Rattle.bk_func.specs.Form.Signatures.{Setting}
 use Rattle.bk_func.proofs.Faults.{In}
-use Rattle.bk_mean.proofs.Named.{IsNamed, to_in, to_contains, got_in}
+use Rattle.bk_places.proofs.Elements.{to_in, to_contains}
+use Rattle.bk_mean.proofs.Named.{IsNamed, got_in}
 
 -- all walks to b pass a
 abbrev pub Dominates : FuncRecord → BlockRecord → BlockRecord → Type 0

@@ -15,7 +15,8 @@ use Rattle.bk_func.specs.Form.Signatures.{Setting}
 use Rattle.bk_func.specs.Form.Parts.{IsBlockNumber}
 use Rattle.bk_func.proofs.Faults.{In}
 use Rattle.bk_func.proofs.Unique.{solved}
-use Rattle.bk_mean.proofs.Named.{to_in, found_value, found_here, got_index}
+use Rattle.bk_places.proofs.Elements.{to_in}
+use Rattle.bk_mean.proofs.Named.{found_value, found_here, got_index}
 use Rattle.bk_mean.proofs.Formed.{Sound}
 use Rattle.bk_mean.proofs.Ranks.{IsLive, rank, ranks}
 

@@ -16,7 +16,8 @@ use Rattle.bk_mean.specs.declared.step.CallWords.{CallWords}
 use Rattle.bk_mean.specs.declared.words.Words.{Words}
 use Rattle.bk_mean.specs.declared.symbols.Callee.{Callee}
 use Rattle.bk_mean.specs.declared.symbols.Callee.TheVariants.{Func, PanicDivide, PanicShift, Missing}
-use Rattle.bk_mean.proofs.Named.{to_contains, got_in, found_block}
+use Rattle.bk_places.proofs.Elements.{to_contains}
+use Rattle.bk_mean.proofs.Named.{got_in, found_block}
 use Rattle.bk_mean.proofs.Formed.{sound}
 use Rattle.bk_mean.proofs.Arranged.{values_at}
 use Rattle.bk_mean.proofs.Resuming.{Frame, inside, resume, resume_stops, run_spent, run_enters, by_callee, called_by}

@@ -13,7 +13,8 @@ use Rattle.bk_func.specs.Form.Signatures.{Setting}
 use Rattle.bk_func.proofs.Faults.{In}
 use Rattle.bk_func.proofs.Flat.{Still, one}
 use Rattle.bk_func.proofs.Unique.{solved}
-use Rattle.bk_mean.proofs.Named.{Once, to_in, found_value, in_left, in_right, in_either}
+use Rattle.bk_places.proofs.Elements.{to_in, in_left, in_right, in_either}
+use Rattle.bk_mean.proofs.Named.{Once, found_value}
 use Rattle.bk_mean.proofs.Formed.{Sound}
 use Rattle.bk_mean.proofs.Ranks.{IsLive, rank, ranks}
 use Rattle.bk_mean.proofs.Steady.{Agree}

@@ -13,7 +13,8 @@ use Rattle.bk_func.specs.Form.States.{IsState, Names}
 use Rattle.bk_func.specs.Form.Before.{Needs}
 use Rattle.bk_func.specs.Form.Signatures.{Setting}
 use Rattle.bk_func.proofs.Faults.{In, filter-in, in-filter}
-use Rattle.bk_mean.proofs.Named.{to_in, to_contains, id_in}
+use Rattle.bk_places.proofs.Elements.{to_in, to_contains}
+use Rattle.bk_mean.proofs.Named.{id_in}
 use Rattle.bk_mean.proofs.Dominance.{reached_block}
 use Rattle.bk_mean.proofs.Longest.{Way, way_short}
 use Rattle.bk_mean.proofs.Typed.{effect_is_state}

@@ -17,7 +17,9 @@ use Rattle.bk_mean.specs.Numbering.{found_in, place_in}
 use Rattle.bk_mean.specs.Arranged.{IsOrdered}
 use Rattle.bk_mean.specs.Ready.{is_result, call_place, kept_by, results_at, KeepsResults}
 use Rattle.bk_mean.specs.declared.ready.Kept.{Kept}
-use Rattle.bk_mean.proofs.Named.{to_in, to_contains, got_index, to_flat, from_flat}
+use Rattle.bk_places.proofs.Elements.{to_in, to_contains}
+use Rattle.bk_places.proofs.Positions.{got, get_or_got}
+use Rattle.bk_mean.proofs.Named.{got_index, to_flat, from_flat}
 use Rattle.bk_mean.proofs.Roles.{result_args, result_calls, first_argument}
 use Rattle.bk_mean.proofs.Formed.{sound}
 use Rattle.bk_mean.proofs.Knowing.{IsResultOf}
@@ -25,7 +27,6 @@ use Rattle.bk_mean.proofs.Walked.{Arrives, arrives_meets}
 use Rattle.bk_mean.proofs.Arranged.{due_level, due_class, values_at}
 use Rattle.bk_mean.proofs.Ordered.{ordered_laid, ordered_placed, ordered_filled}
 use Rattle.bk_mean.proofs.Doing.{Order}
-use Rattle.bk_mean.proofs.Positions.{got, get_or_got}
 use Rattle.bk_mean.proofs.Leaps.{found_at}
 use Rattle.bk_mean.proofs.Standing.{value_found_in, one_number}
 

@@ -16,7 +16,8 @@ use Rattle.bk_func.specs.Form.Signatures.{Setting}
 use Rattle.bk_func.specs.Form.Shapes.{FitsPlace, slot, is_call_of}
 use Rattle.bk_func.proofs.Faults.{In}
 use Rattle.bk_func.proofs.Flat.{one}
-use Rattle.bk_mean.proofs.Named.{to_in, to_contains, got_in, borne}
+use Rattle.bk_places.proofs.Elements.{to_in, to_contains}
+use Rattle.bk_mean.proofs.Named.{got_in, borne}
 use Rattle.bk_mean.proofs.Dominance.{defined_here, reached_block}
 use Rattle.bk_mean.proofs.Roles.{result_args, result_families, result_calls, first_argument}
 use Rattle.bk_mean.proofs.Formed.{Sound}

@@ -18,7 +18,8 @@ use Rattle.bk_func.specs.Form.Signatures.{Setting}
 use Rattle.bk_func.proofs.Faults.{In, in-filter, filter-in}
 use Rattle.bk_func.proofs.Flat.{Still, Laid, last, more}
 use Rattle.bk_func.proofs.Greedy.{Greedy, none, put}
-use Rattle.bk_mean.proofs.Named.{Once, to_in, to_contains, got_in, in_left, in_right, in_either}
+use Rattle.bk_places.proofs.Elements.{to_in, to_contains, in_left, in_right, in_either}
+use Rattle.bk_mean.proofs.Named.{Once, got_in}
 use Rattle.bk_mean.proofs.Roles.{checks, loads}
 use Rattle.bk_mean.proofs.Typed.{no_effect}
 use Rattle.bk_mean.proofs.Ranks.{rank, rank_below_room, needs_onward}

@@ -8,7 +8,8 @@ use Rattle.std.proofs.lemmas.List.{length-map, length-set, get_or-set_same, get_
 use Rattle.bk_func.specs.Records.{ValueRecord, BlockRecord, FuncRecord}
 use Rattle.bk_func.specs.Numbers.{values_of, value_of, room, is_memory_copy, copied, memory_at}
 use Rattle.bk_mean.proofs.Firsts.{find_none}
-use Rattle.bk_mean.proofs.Positions.{got_get_or, position_first, first_find}
+use Rattle.bk_places.proofs.Positions.{got_get_or, position_first}
+use Rattle.bk_mean.proofs.Positions.{first_find}
 use Rattle.bk_mean.specs.declared.numbering.Numbering.{Numbering}
 use Rattle.bk_mean.specs.Numbering.{found_in, place_in, copied_by, AreRoots, IsNumbering, root_in, within}
 

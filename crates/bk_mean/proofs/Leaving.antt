@@ -21,7 +21,8 @@ use Rattle.bk_mean.specs.Left.{put_all, phi_number, phi_numbers, given_words, re
 use Rattle.bk_mean.specs.Turned.{Stage, Ground}
 use Rattle.bk_mean.specs.declared.ready.ReadyValue.{ReadyValue}
 use Rattle.bk_mean.specs.declared.ready.ReadyBlock.{ReadyBlock}
-use Rattle.bk_mean.proofs.Named.{to_in, to_contains, got_in, in_got, found_value, value_found}
+use Rattle.bk_places.proofs.Elements.{to_in, to_contains}
+use Rattle.bk_mean.proofs.Named.{got_in, in_got, found_value, value_found}
 use Rattle.bk_mean.proofs.Dominance.{Home, home, defined_before, arguments_defined, reached_block, reached_over}
 use Rattle.bk_mean.proofs.Formed.{Sound, sound}
 use Rattle.bk_mean.proofs.Chains.{effect_no_phi}

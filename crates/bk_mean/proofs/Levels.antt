@@ -14,7 +14,8 @@ use Rattle.bk_func.specs.Form.Signatures.{Setting}
 use Rattle.bk_func.proofs.Faults.{In}
 use Rattle.bk_func.proofs.Needs.{any_in, in_any}
 use Rattle.bk_ops.specs.declared.family.Family.TheVariants as op
-use Rattle.bk_mean.proofs.Named.{to_in, to_contains, got_in, in_got}
+use Rattle.bk_places.proofs.Elements.{to_in, to_contains}
+use Rattle.bk_mean.proofs.Named.{got_in, in_got}
 use Rattle.bk_mean.proofs.Roles.{is_result, no_call_result, loads, checks, no_phi, not_phi, check_args}
 use Rattle.bk_mean.proofs.Typed.{effect_is_state}
 use Rattle.bk_mean.proofs.Formed.{Sound}

@@ -40,7 +40,8 @@ use Rattle.bk_mean.specs.declared.step.After.{After}
 use Rattle.bk_mean.specs.declared.step.After.TheVariants as after
 use Rattle.bk_mean.specs.declared.turn.Next.{Next}
 use Rattle.bk_mean.specs.declared.turn.Next.TheVariants as next
-use Rattle.bk_mean.proofs.Named.{to_contains, got_in, got_index, found_block}
+use Rattle.bk_places.proofs.Elements.{to_contains}
+use Rattle.bk_mean.proofs.Named.{got_in, got_index, found_block}
 use Rattle.bk_mean.proofs.Formed.{sound}
 use Rattle.bk_mean.proofs.Chains.{effect_no_phi}
 use Rattle.bk_mean.proofs.Arranged.{due_level, due_class, values_at}

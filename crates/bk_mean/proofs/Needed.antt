@@ -11,7 +11,8 @@ use Rattle.bk_func.specs.Form.Before.{IsTakenBy, Needs, takes, through}
 use Rattle.bk_func.specs.Form.Signatures.{Setting}
 use Rattle.bk_func.proofs.Faults.{In}
 use Rattle.bk_func.proofs.Needs.{any_in, in_any, found_in}
-use Rattle.bk_mean.proofs.Named.{to_in, to_contains, found_here}
+use Rattle.bk_places.proofs.Elements.{to_in, to_contains}
+use Rattle.bk_mean.proofs.Named.{found_here}
 use Rattle.bk_mean.proofs.Roles.{no_phi, not_phi}
 use Rattle.bk_mean.proofs.Formed.{Sound}
 use Rattle.bk_mean.proofs.Ranks.{rank, argument_falls}

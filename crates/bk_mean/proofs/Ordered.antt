@@ -24,14 +24,15 @@ use Rattle.bk_mean.specs.Arranged.{Due, anytime, class_of, level_in, due_by, due
 use Rattle.bk_mean.specs.Dues.{due_in, seen_at, AllDue, DuesOfPlaces, StaysWithin, FallsBy, taken_in}
 use Rattle.bk_mean.specs.Memories.{state_place, states_of, place_due, taken_place, taken_places, all_taken, dues_at, IsArranged}
 use Rattle.bk_mean.specs.Ready.{StandsAt}
-use Rattle.bk_mean.proofs.Named.{to_in, to_contains, got_in}
+use Rattle.bk_places.proofs.Elements.{to_in, to_contains}
+use Rattle.bk_places.proofs.Positions.{got, get_or_got}
+use Rattle.bk_mean.proofs.Named.{got_in}
 use Rattle.bk_mean.proofs.Roles.{no_phi, not_phi}
 use Rattle.bk_mean.proofs.Formed.{sound}
 use Rattle.bk_mean.proofs.Ranks.{rank, argument_falls}
 use Rattle.bk_mean.proofs.Course.{Meets}
 use Rattle.bk_mean.proofs.Laying.{Filled as ByValues, Placed}
 use Rattle.bk_mean.proofs.Arranged.{Reads, due_here, due_level, due_class, values_at, arranged_filled, arranged_laid, arranged_placed}
-use Rattle.bk_mean.proofs.Positions.{got, get_or_got}
 use Rattle.bk_mean.proofs.Releasing.{taken_of}
 use Rattle.bk_mean.proofs.Arranging.{filled_as}
 use Rattle.bk_mean.proofs.Standing.{StandsFrom, stands_from, one_number}

@@ -20,7 +20,9 @@ use Rattle.bk_mean.specs.declared.numbering.Numbering.{Numbering}
 use Rattle.bk_mean.specs.Numbering.{found_in, place_in, IsNumbering, root_in, local_in}
 use Rattle.bk_mean.specs.Arranged.{class_of, level_in, due_by, due_of}
 use Rattle.bk_mean.specs.Memories.{state_place, acting_place, gives_state, is_given, beginning_of, followed_by, next_place, walked, states_of, place_due}
-use Rattle.bk_mean.proofs.Named.{to_in, to_contains, in_got, got_in}
+use Rattle.bk_places.proofs.Elements.{to_in, to_contains}
+use Rattle.bk_places.proofs.Positions.{first_position, position_first, position_none}
+use Rattle.bk_mean.proofs.Named.{in_got, got_in}
 use Rattle.bk_mean.proofs.Formed.{Sound, sound}
 use Rattle.bk_mean.proofs.Ranks.{rank_below_room, argument_falls}
 use Rattle.bk_mean.proofs.Stands.{arg_named, memory_stands, stands_memory}
@@ -30,7 +32,7 @@ use Rattle.bk_mean.proofs.Course.{Meets, effect_done}
 use Rattle.bk_mean.proofs.Levels.{asks, acts, ask_no_phi, effect_acts, one_place, chain_at, at_number, number_at as number_of_chain}
 use Rattle.bk_mean.proofs.Arranged.{chain_short, class_none, class_some, act_met}
 use Rattle.bk_mean.proofs.Firsts.{position-map}
-use Rattle.bk_mean.proofs.Positions.{first_position, position_first, position_none, no_position}
+use Rattle.bk_mean.proofs.Positions.{no_position}
 use Rattle.bk_mean.proofs.Leaps.{root_is, found_at}
 use Rattle.bk_mean.proofs.Standing.{StandsFrom, value_found_in, one_number}
 

@@ -14,7 +14,8 @@ use Rattle.bk_func.specs.Form.Signatures.{Setting}
 use Rattle.bk_func.proofs.Faults.{In}
 use Rattle.bk_func.proofs.Needs.{BlockRanked, found_in}
 use Rattle.bk_func.proofs.Unique.{inputs_by, inputs_of, Ranked, Solves, solved}
-use Rattle.bk_mean.proofs.Named.{IsNamed, to_contains, got_in, one_or_two, found_value, found_here, id_in}
+use Rattle.bk_places.proofs.Elements.{to_contains}
+use Rattle.bk_mean.proofs.Named.{IsNamed, got_in, one_or_two, found_value, found_here, id_in}
 use Rattle.bk_mean.proofs.Dominance.{Dominates, dominates_onward, one_dominates, defined_here, Home, home, arguments_defined}
 use Rattle.bk_mean.proofs.Longest.{deep, Falls, rank_few, rank_falls}
 use Rattle.bk_mean.proofs.Roles.{HasRow, no_phi, not_phi, load_args, check_args, copy_args, same_copies, first_argument}

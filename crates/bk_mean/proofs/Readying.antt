@@ -8,7 +8,7 @@ use Rattle.bk_mean.specs.declared.symbols.Symbols.{Symbols}
 use Rattle.bk_mean.specs.Symbols.{IsNaming}
 use Rattle.bk_mean.specs.Ready.{IsReady}
 use Rattle.bk_mean.specs.Running.{AreReady, MakesReady, NoneReady}
-use Rattle.bk_mean.proofs.Positions.{got_get_or}
+use Rattle.bk_places.proofs.Positions.{got_get_or}
 
 -- one more that is not ready
 pub none_more : (n : ℕ) (old new : List (Option Ready)) → NoneReady n old → new ≡ old ++ None ∷ [] → NoneReady (n + 1) new

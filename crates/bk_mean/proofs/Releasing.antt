@@ -1,6 +1,6 @@
 -- Values that are freed where their last use is taken, and the set of those that are free.
-use Rattle.std.proofs.Common.{◌≡◌, ℕ, ◌+◌, ◌-◌, ◌<◌, ◌≤◌, refl, ap, sym, ◌∙◌, subst, arith, ◌⊎◌, ◌↔◌, inl, inr, List, [], ◌∷◌, ◌++◌, length, map, take, Option, Some, None, Bool, true, false, cond, ◌==◌, eq-eqb, ne_eqb, get_or}
-use Rattle.std.specs.Prelude.{slice_get, slice_index, slice_set}
+use Rattle.std.proofs.Common.{◌≡◌, ℕ, ◌+◌, ◌<◌, refl, ap, sym, ◌∙◌, subst, arith, ◌⊎◌, ◌↔◌, inl, inr, List, [], length, map, take, Option, Some, None, Bool, true, false, cond, get_or}
+use Rattle.std.specs.Prelude.{slice_get, slice_index}
 use Rattle.std.specs.List.{Contains}
 use Rattle.std.specs.Ordering.{nat_cmp, is_eq, is_lt, ordering_then}
 use Rattle.std.specs.declared.cmp.Ordering.{Ordering}
@@ -10,14 +10,15 @@ use Rattle.std.specs.BTreeMap.{is_at}
 use Rattle.std.proofs.lemmas.Bool.{cases_eq}
 use Rattle.std.proofs.lemmas.Cmp.{ranked}
 use Rattle.std.specs.Cmp.{nat_cmp_is}
-use Rattle.std.proofs.lemmas.List.{take_more, get_or-map, get_or-set_same, get_or-set_other}
-use Rattle.std.proofs.lemmas.List.Sums.{sum_by_more, sum_by_more_le}
+use Rattle.std.proofs.lemmas.List.{get_or-map}
+use Rattle.bk_places.proofs.Counting.{Ended, take_before, take_here, before_taken}
+use Rattle.bk_places.proofs.Elements.{to_in, to_contains}
+use Rattle.bk_places.proofs.Positions.{got_get_or}
 use Rattle.bk_mean.specs.declared.arrange.Due.{Due}
 use Rattle.bk_mean.specs.Arranged as meant
 use Rattle.bk_mean.specs.Arranged.{Later, by_level, by_class, by_place}
-use Rattle.bk_mean.specs.Dues.{seen_due, coded_due, seen_at, due_in, due_cmp, has_due, DuesOfPlaces, StaysWithin, AreFree, Released, count_in, taken_in}
-use Rattle.bk_mean.proofs.Named.{to_in, to_contains, got_in, in_left, in_right, in_either}
-use Rattle.bk_mean.proofs.Positions.{got_get_or}
+use Rattle.bk_mean.specs.Dues.{seen_due, coded_due, seen_at, due_in, due_cmp, has_due, DuesOfPlaces, StaysWithin, AreFree, Released, taken_in}
+use Rattle.bk_mean.proofs.Named.{got_in}
 
 -- dues in their order
 
@@ -110,82 +111,12 @@ without_due d old new h e = (forward, λ q. back q.0 q.1)
         go true q = absurd (n (sym (ap seen_due (same_due d (coded_due e) q))))
         go false q = k
 
--- counts
-
-abbrev pub hit : ℕ → ℕ → ℕ
-hit y t = cond (t == y) 1 0
-
-pub count_more : (y : ℕ) (ts : List ℕ) (i : ℕ) → i < length ts → count_in y (take (i + 1) ts) ≡ count_in y (take i ts) + hit y (get_or ts i 0)
-count_more y ts i h = sum_by_more (hit y) ts i 0 h
-
-pub hit_same : (y : ℕ) → hit y y ≡ 1
-hit_same y = rw (eq-eqb y y refl) refl
-
-pub hit_other : (y t : ℕ) → ¬ (t ≡ y) → hit y t ≡ 0
-hit_other y t n = rw (ne_eqb t y n) refl
-
--- a use is there before it is taken
-pub use_left : (ts uses old : List ℕ) (i : ℕ) → i < length ts → ((y : ℕ) → slice_index uses y + count_in y (take i ts) ≡ slice_index old y) → ((y : ℕ) → count_in y ts ≤ slice_index old y) →
-    0 < slice_index uses (get_or ts i 0)
-use_left ts uses old i h c enough =
-    let t = get_or ts i 0 in
-    let a = c t in
-    let b = enough t in
-    let l = sum_by_more_le (hit t) ts i 0 h in
-    let k = hit_same t in
-    omega (arith, a, b, l, k)
-
--- one use of a place less
-pub record Used (t : ℕ) (uses rest : List ℕ) : Type 0 where
-  pub some : 0 < slice_index uses t
-  pub here : slice_index rest t ≡ slice_index uses t - 1
-  pub other : (y : ℕ) → ¬ (y ≡ t) → slice_index rest y ≡ slice_index uses y
-
-pub uses_more : (ts uses rest old : List ℕ) (i : ℕ) → i < length ts → Used (get_or ts i 0) uses rest → ((y : ℕ) → slice_index uses y + count_in y (take i ts) ≡ slice_index old y) →
-    (y : ℕ) → slice_index rest y + count_in y (take (i + 1) ts) ≡ slice_index old y
-uses_more ts uses rest old i h u c y = go (cases_eq y (get_or ts i 0))
-  where
-    go : (y ≡ get_or ts i 0) ⊎ (y ≡ get_or ts i 0 → ⊥) → slice_index rest y + count_in y (take (i + 1) ts) ≡ slice_index old y
-    go (inl e) =
-        let P : ℕ → Type 0 = λ x. slice_index rest x + count_in x (take (i + 1) ts) ≡ slice_index old x in
-        let t = get_or ts i 0 in
-        let a = c t in
-        let m = count_more t ts i h in
-        let k = hit_same t in
-        let s = u.some in
-        let r = u.here in
-        subst P (sym e) (omega (arith, a, m, k, s, r))
-    go (inr n) =
-        let a = c y in
-        let m = count_more y ts i h in
-        let k = hit_other y (get_or ts i 0) (λ q. n (sym q)) in
-        let r = u.other y n in
-        omega (arith, a, m, k, r)
-
 -- what is released by one more place
-pub released_more : (dues : List (Option Due)) (ts uses rest : List ℕ) (old free now : BTreeSet Due) (i : ℕ) → i < length ts → Used (get_or ts i 0) uses rest → Released dues (take i ts) uses old free →
+pub released_more : (dues : List (Option Due)) (ts uses rest : List ℕ) (old free now : BTreeSet Due) (i : ℕ) → i < length ts → Ended (get_or ts i 0) uses rest → Released dues (take i ts) uses old free →
     ((d : meant.Due) → (has_due now d ≡ true) ↔ ((has_due free d ≡ true) ⊎ ((d.place ≡ get_or ts i 0) × (due_in dues d.place ≡ Some d) × (slice_index rest d.place ≡ 0)))) →
     Released dues (take (i + 1) ts) rest old now
 released_more dues ts uses rest old free now i h u r n = record { each = λ d. (forward d, back d) }
   where
-    front : (x : ℕ) → Contains (take i ts) x → Contains (take (i + 1) ts) x
-    front x c =
-        let P : List ℕ → Type 0 = λ ys. Contains ys x in
-        subst P (sym (take_more ts i 0 h)) (to_contains x (take i ts ++ get_or ts i 0 ∷ []) (in_left x (take i ts) (get_or ts i 0 ∷ []) (to_in x (take i ts) c)))
-
-    here : (x : ℕ) → x ≡ get_or ts i 0 → Contains (take (i + 1) ts) x
-    here x e =
-        let P : List ℕ → Type 0 = λ ys. Contains ys x in
-        subst P (sym (take_more ts i 0 h)) (to_contains x (take i ts ++ get_or ts i 0 ∷ []) (in_right x (take i ts) (get_or ts i 0 ∷ []) (inl (sym e))))
-
-    before : (x : ℕ) → Contains (take (i + 1) ts) x → ¬ (x ≡ get_or ts i 0) → Contains (take i ts) x
-    before x c m =
-        let P : List ℕ → Type 0 = λ ys. Contains ys x in
-        elim (in_either x (take i ts) (get_or ts i 0 ∷ []) (to_in x (take i ts ++ get_or ts i 0 ∷ []) (subst P (take_more ts i 0 h) c))) as (λ _. Contains (take i ts) x) [
-          | inl j ↦ to_contains x (take i ts) j
-          | inr j ↦ elim j as (λ _. Contains (take i ts) x) [ inl e ↦ absurd (m (sym e)) | inr k ↦ elim k [ ] ]
-        ]
-
     apart : (x : ℕ) → slice_index uses x ≡ 0 → ¬ (x ≡ get_or ts i 0)
     apart x z e = let s = u.some in let k = ap (slice_index uses) e in absurd (omega (arith, s, k, z))
 
@@ -195,12 +126,12 @@ released_more dues ts uses rest old free now i h u r n = record { each = λ d. (
         was : (has_due old d ≡ true) ⊎ (Contains (take i ts) d.place × (due_in dues d.place ≡ Some d) × (slice_index uses d.place ≡ 0)) →
             (has_due old d ≡ true) ⊎ (Contains (take (i + 1) ts) d.place × (due_in dues d.place ≡ Some d) × (slice_index rest d.place ≡ 0))
         was (inl q) = inl q
-        was (inr (c, e, z)) = inr (front d.place c, e, u.other d.place (apart d.place z) ∙ z)
+        was (inr (c, e, z)) = inr (take_before d.place i ts h c, e, u.other d.place (apart d.place z) ∙ z)
 
         go : (has_due free d ≡ true) ⊎ ((d.place ≡ get_or ts i 0) × (due_in dues d.place ≡ Some d) × (slice_index rest d.place ≡ 0)) →
             (has_due old d ≡ true) ⊎ (Contains (take (i + 1) ts) d.place × (due_in dues d.place ≡ Some d) × (slice_index rest d.place ≡ 0))
         go (inl q) = was ((r.each d).0 q)
-        go (inr (p, e, z)) = inr (here d.place p, e, z)
+        go (inr (p, e, z)) = inr (take_here d.place i ts h p, e, z)
 
     back : (d : meant.Due) → (has_due old d ≡ true) ⊎ (Contains (take (i + 1) ts) d.place × (due_in dues d.place ≡ Some d) × (slice_index rest d.place ≡ 0)) → has_due now d ≡ true
     back d (inl q) = (n d).1 (inl ((r.each d).1 (inl q)))
@@ -208,7 +139,7 @@ released_more dues ts uses rest old free now i h u r n = record { each = λ d. (
       where
         go : (d.place ≡ get_or ts i 0) ⊎ (d.place ≡ get_or ts i 0 → ⊥) → has_due now d ≡ true
         go (inl p) = (n d).1 (inr (p, e, z))
-        go (inr m) = (n d).1 (inl ((r.each d).1 (inr (before d.place c m, e, sym (u.other d.place m) ∙ z))))
+        go (inr m) = (n d).1 (inl ((r.each d).1 (inr (before_taken d.place i ts h c m, e, sym (u.other d.place m) ∙ z))))
 
 pub released_none : (dues : List (Option Due)) (uses : List ℕ) (old : BTreeSet Due) → Released dues [] uses old old
 released_none dues uses old = record { each = λ d. (λ k. inl k, λ q. elim q as (λ _. has_due old d ≡ true) [ inl k ↦ k | inr (c, e, z) ↦ elim (to_in d.place [] c) [ ] ]) }
@@ -274,14 +205,3 @@ not_due dues k h n d e = go (get_or dues k None) refl
     go : (o : Option Due) → get_or dues k None ≡ o → ⊥
     go None q = let x = ap seen_at (got_get_or dues k None h ∙ ap Some q) in absurd cc
     go (Some c) q = n c q
-
-pub used_one : (t : ℕ) (uses rest : List ℕ) → t < length uses → 0 < slice_index uses t → rest ≡ slice_set uses t (slice_index uses t - 1) → Used t uses rest
-used_one t uses rest l some e = record {
-  some = some;
-  here = ap (λ xs. slice_index xs t) e ∙ get_or-set_same uses t (slice_index uses t - 1) 0 l;
-  other = λ y n. ap (λ xs. slice_index xs y) e ∙ get_or-set_other uses t y (slice_index uses t - 1) 0 n;
-}
-
--- whether that was the last use
-pub last_use : (t : ℕ) (uses rest : List ℕ) → Used t uses rest → (slice_index uses t ≡ 1 → slice_index rest t ≡ 0) × (slice_index rest t ≡ 0 → slice_index uses t ≡ 1)
-last_use t uses rest u = let s = u.some in let h = u.here in (λ e. omega (arith, h, e), λ e. omega (arith, s, h, e))

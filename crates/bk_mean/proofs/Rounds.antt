@@ -15,7 +15,8 @@ use Rattle.bk_mean.specs.Turned.{Stage, Ground, IsTurn, Turned, all, absent, onw
 use Rattle.bk_mean.specs.declared.step.After.{After}
 use Rattle.bk_mean.specs.declared.step.After.TheVariants.{On, Trap, Wild, Call}
 use Rattle.bk_mean.specs.declared.ready.ReadyValue.{ReadyValue}
-use Rattle.bk_mean.proofs.Named.{to_contains, got_in}
+use Rattle.bk_places.proofs.Elements.{to_contains}
+use Rattle.bk_mean.proofs.Named.{got_in}
 use Rattle.bk_mean.proofs.Arranged.{with_value, values_at}
 use Rattle.bk_mean.proofs.Tabled.{place_at, ready_at, ready_there}
 use Rattle.bk_mean.proofs.Doing.{Order, IsAt, Comes, done_so, called_so}

@@ -12,8 +12,9 @@ use Rattle.bk_func.specs.Form.Parts.{IsValueNumber}
 use Rattle.bk_func.specs.Form.Signatures.{Setting}
 use Rattle.bk_mean.specs.Numbering.{found_in}
 use Rattle.bk_mean.specs.Ready.{count_values}
-use Rattle.bk_mean.proofs.Named.{to_in, to_contains, in_got, got_in, to_flat}
-use Rattle.bk_mean.proofs.Positions.{first_position, position_first, position_none}
+use Rattle.bk_places.proofs.Elements.{to_in, to_contains}
+use Rattle.bk_places.proofs.Positions.{first_position, position_first, position_none}
+use Rattle.bk_mean.proofs.Named.{in_got, got_in, to_flat}
 
 -- lists one after the other
 

@@ -12,7 +12,8 @@ use Rattle.bk_func.specs.Form.States.{CopiesMemory, StandsFor, itself, copied as
 use Rattle.bk_func.specs.Form.Before.{Needs, takes}
 use Rattle.bk_func.specs.Form.Signatures.{Setting}
 use Rattle.bk_func.proofs.Faults.{In}
-use Rattle.bk_mean.proofs.Named.{IsNamed, to_contains, got_in, found_value, got_index}
+use Rattle.bk_places.proofs.Elements.{to_contains}
+use Rattle.bk_mean.proofs.Named.{IsNamed, got_in, found_value, got_index}
 use Rattle.bk_mean.proofs.Dominance.{Dominates, dominates_itself, dominates_onward, one_dominates, defined_from, defined_here, home, arguments_defined}
 use Rattle.bk_mean.proofs.Roles.{is_memory_copy-true, is_memory_copy-false, memory_copy, result_args, copy_args, result_calls, calls_result, first_argument}
 use Rattle.bk_mean.proofs.Formed.{Sound}

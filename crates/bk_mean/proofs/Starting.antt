@@ -23,7 +23,8 @@ use Rattle.bk_mean.specs.Symbols.{callee_of, callee_found}
 use Rattle.bk_mean.specs.declared.ready.Ready.{Ready}
 use Rattle.bk_mean.specs.declared.ready.ReadyBlock.{ReadyBlock}
 use Rattle.bk_mean.specs.declared.symbols.Callee.TheVariants.{Func, PanicDivide, PanicShift}
-use Rattle.bk_mean.proofs.Named.{to_in, to_contains, got_in}
+use Rattle.bk_places.proofs.Elements.{to_in, to_contains}
+use Rattle.bk_mean.proofs.Named.{got_in}
 use Rattle.bk_mean.proofs.Formed.{Sound, sound}
 use Rattle.bk_mean.proofs.Dominance.{entry_reached}
 use Rattle.bk_mean.proofs.Roles.{result_args, result_calls, first_argument}

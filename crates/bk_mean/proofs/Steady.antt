@@ -13,7 +13,8 @@ use Rattle.bk_func.specs.Form.Signatures.{Setting}
 use Rattle.bk_func.proofs.Faults.{In}
 use Rattle.bk_func.proofs.Unique.{inputs_of, Ranked}
 use Rattle.bk_func.proofs.Frame.{ReadsAlike, ReadsAt, frame}
-use Rattle.bk_mean.proofs.Named.{to_contains, got_in, found_value}
+use Rattle.bk_places.proofs.Elements.{to_contains}
+use Rattle.bk_mean.proofs.Named.{got_in, found_value}
 use Rattle.bk_mean.proofs.Dominance.{Dominates, one_dominates, defined_from, defined_here, Home, home, arguments_defined}
 use Rattle.bk_mean.proofs.Roles.{is_result, no_call_result, no_phi, load_args, result_args, result_calls, first_argument}
 use Rattle.bk_mean.proofs.Formed.{Sound}

@@ -16,7 +16,8 @@ use Rattle.bk_func.specs.Form.Parts.{IsValueNumber}
 use Rattle.bk_mean.specs.Numbering.{place_in}
 use Rattle.bk_mean.specs.Ready.{IsReadyValue, AreReadyValues, count_values}
 use Rattle.bk_mean.specs.declared.ready.ReadyValue.{ReadyValue}
-use Rattle.bk_mean.proofs.Named.{to_in, to_contains, got_in, in_got}
+use Rattle.bk_places.proofs.Elements.{to_in, to_contains}
+use Rattle.bk_mean.proofs.Named.{got_in, in_got}
 
 -- the numbers of values, where they stand by places
 abbrev pub table : FuncRecord → List ℕ → ℕ → ℕ

@@ -22,7 +22,8 @@ use Rattle.bk_func.specs.Form.Signatures.{Setting}
 use Rattle.bk_func.proofs.Faults.{In}
 use Rattle.bk_func.proofs.Flat.{one}
 use Rattle.bk_func.proofs.Unique.{solved}
-use Rattle.bk_mean.proofs.Named.{Once, to_in, to_contains, got_in, found_value, in_either, borne}
+use Rattle.bk_places.proofs.Elements.{to_in, to_contains, in_either}
+use Rattle.bk_mean.proofs.Named.{Once, got_in, found_value, borne}
 use Rattle.bk_mean.proofs.Dominance.{defined_here, arguments_defined}
 use Rattle.bk_mean.proofs.Roles.{result_args, result_calls, first_argument}
 use Rattle.bk_mean.proofs.Formed.{Sound}

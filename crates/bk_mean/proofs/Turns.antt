@@ -13,7 +13,8 @@ use Rattle.bk_func.specs.Form.Before.{Needs, Checks, ComesBefore, checks as chec
 use Rattle.bk_func.specs.Form.Signatures.{Setting}
 use Rattle.bk_func.proofs.Faults.{In, in-filter, first_fault-append, none_of}
 use Rattle.bk_func.proofs.Greedy.{after, Closed, Greedy, greedy_first}
-use Rattle.bk_mean.proofs.Named.{to_contains, in_left, in_right, in_either, in_got}
+use Rattle.bk_places.proofs.Elements.{to_contains, in_left, in_right, in_either}
+use Rattle.bk_mean.proofs.Named.{in_got}
 use Rattle.bk_mean.proofs.Roles.{checks}
 use Rattle.bk_mean.proofs.Formed.{Sound}
 use Rattle.bk_mean.proofs.Ranks.{rank, rank_below_room, needs_precede, needs_onward, behind}

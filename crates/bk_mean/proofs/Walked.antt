@@ -10,7 +10,7 @@ use Rattle.bk_func.specs.Form.Walks.{Walk, begin, onward, IsReached}
 use Rattle.bk_func.specs.Form.States.{IsStateOf, IsChain, Carries, made, kept, HasChain}
 use Rattle.bk_func.specs.Form.Signatures.{Setting}
 use Rattle.bk_func.proofs.Faults.{In}
-use Rattle.bk_mean.proofs.Named.{to_in, to_contains}
+use Rattle.bk_places.proofs.Elements.{to_in, to_contains}
 use Rattle.bk_mean.proofs.Dominance.{reached_block}
 use Rattle.bk_mean.proofs.Typed.{effect_is_state}
 use Rattle.bk_mean.proofs.Formed.{Sound}

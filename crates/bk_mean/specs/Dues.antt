@@ -1,5 +1,5 @@
 -- When the values of a block are due, and what they take, as the code has them.
-use Rattle.std.specs.Prelude.{◌≡◌, ℕ, ◌<◌, ◌==◌, ◌↔◌, ◌⊎◌, Bool, true, List, [], length, count_by, sum_by, slice_get, slice_index, get_or, Option, Some, None}
+use Rattle.std.specs.Prelude.{◌≡◌, ℕ, ◌<◌, ◌↔◌, ◌⊎◌, Bool, true, List, [], length, slice_get, slice_index, get_or, Option, Some, None}
 use Rattle.std.specs.List.{Contains}
 use Rattle.std.specs.Ordering.{nat_cmp, ordering_then}
 use Rattle.std.specs.declared.cmp.Ordering.{Ordering}
@@ -46,12 +46,6 @@ FallsBy r takes = (x y : ℕ) → Contains (taken_in takes x) y → r y < r x
 -- values take others of so many
 pub record StaysWithin (n : ℕ) (takes : List (List ℕ)) : Type 0 where
   pub within : (x y : ℕ) → Contains (taken_in takes x) y → y < n
-
-abbrev pub count_in : ℕ → List ℕ → ℕ
-count_in y ts = count_by (λ t. t == y) ts
-
-abbrev pub total_in : List (List ℕ) → ℕ → ℕ
-total_in takes y = sum_by (λ ts. count_in y ts) takes
 
 -- those of the first so many places that are free
 pub record AreFree (dues : List (Option Due)) (uses : List ℕ) (n : ℕ) (free : BTreeSet Due) : Type 0 where

@@ -2,7 +2,8 @@
 ghost use Rattle.std.specs.Prelude.{◌≡◌, ℕ, ◌+◌, ◌-◌, ◌<◌, ◌≤◌, ◌↔◌, IsTrue, IfOk, OnOk, length, map, slice_index, slice_set};
 ghost use Rattle.std.specs.List.{All, Contains, range_with_len};
 ghost use Rattle.bk_mean.specs.Arranged.{Filled};
-ghost use Rattle.bk_mean.specs.Dues.{due_in, taken_in, AllDue, DuesOfPlaces, FallsBy, StaysWithin, AreFree, Released, count_in, total_in};
+ghost use Rattle.bk_places.specs.Counts.{count_in, total_in};
+ghost use Rattle.bk_mean.specs.Dues.{due_in, taken_in, AllDue, DuesOfPlaces, FallsBy, StaysWithin, AreFree, Released};
 
 use smallvec::SmallVec;
 use std::alloc::{AllocError, Global};

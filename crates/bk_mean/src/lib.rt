@@ -8,7 +8,6 @@ mod machine;
 mod memory;
 mod number;
 mod numbering;
-mod places;
 mod prepare;
 mod ready;
 mod role;

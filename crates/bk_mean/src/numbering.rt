@@ -6,9 +6,9 @@ ghost use Rattle.bk_func.specs.Records.{FuncRecord};
 ghost use Rattle.bk_func.specs.Numbers.{values_of, room};
 ghost use Rattle.bk_mean.specs.Numbering.{IsNumbering, AreRoots, found_in, place_in, root_in, copied_by as meant_copied};
 
-use crate::places::first_places;
 use bk_func::{Block, Func, Value};
 use bk_ops::{Family, Ty};
+use bk_places::first_places;
 use std::alloc::{AllocError, Global};
 use std::collections::BTreeMap;
 

@@ -14,10 +14,10 @@ ghost use Rattle.bk_mean.specs.Memories.{state_place, acting_place, is_given as 
 
 use crate::arrange::Due;
 use crate::numbering::Numbering;
-use crate::places::first_places;
 use crate::role::{Origin, effect_of, origin_of};
 use bk_func::Value;
 use bk_ops::op_info;
+use bk_places::first_places;
 use std::alloc::{AllocError, Global};
 use std::collections::BTreeMap;
 

@@ -9,8 +9,8 @@ ghost use Rattle.bk_mean.specs.Symbols.{IsNaming, callee_found, callee_of, start
 
 use crate::memory::DATA_BASE;
 use crate::number::at;
-use crate::places::first_places;
 use bk_func::{Aux, Func, PANIC_DIVIDE, PANIC_SHIFT, Package, Var};
+use bk_places::first_places;
 use std::alloc::{AllocError, Global};
 use std::collections::BTreeMap;
 

@@ -1,11 +1,13 @@
 pub mod Adding
 pub mod Clearing
+pub mod Counting
 pub mod Elements
 pub mod Extending
 pub mod Filling
 pub mod Firsts
 pub mod Grouping
 pub mod Leading
+pub mod Leaving
 pub mod Marking
 pub mod Meeting
 pub mod NamesAt

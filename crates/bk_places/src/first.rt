@@ -8,7 +8,7 @@ use std::alloc::{AllocError, Global};
 use std::collections::BTreeMap;
 
 /// The first place of each number.
-pub fn first_places(alloc: Global, numbers: &[u32]) -> Result<BTreeMap<u32, usize>, AllocError>
+pub fn first_places(alloc: Global, numbers: &[usize]) -> Result<BTreeMap<usize, usize>, AllocError>
     ensures { IfOk result (λ places. (n : ℕ) → get nat_cmp places n ≡ place_in numbers.now n) }
 {
     let mut places = BTreeMap::new(alloc);

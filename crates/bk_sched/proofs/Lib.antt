@@ -3,7 +3,6 @@ pub mod Arranging
 pub mod Ending
 pub mod Grouping
 pub mod Keeping
-pub mod Leaving
 pub mod Naming
 pub mod Needing
 pub mod Placing

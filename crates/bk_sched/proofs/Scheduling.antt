@@ -14,7 +14,7 @@ use Rattle.bk_sched.specs.Arranged.{IsOrder}
 use Rattle.bk_sched.specs.Order.{ComesBefore, Precedes, argument, checks, needed, right, state, unneeded, onward as further}
 use Rattle.bk_sched.specs.Schedule.{IsReady, IsSchedule, Scheduled, done as no_more, next as goes_on, rank_of}
 use Rattle.bk_sched.specs.Turns.{IsFree, Turned, done, next}
-use Rattle.bk_sched.proofs.Leaving.{range_all}
+use Rattle.bk_places.proofs.Leaving.{range_all}
 
 -- these values stand at these places
 abbrev pub At : BlockRecord → List ℕ → List ValueRecord → Type 0

@@ -1,6 +1,6 @@
 -- Places in turn, with the set of those that are ready.
-use Rattle.std.proofs.Common.{◌≡◌, ℕ, ◌+◌, ◌-◌, ◌<◌, ◌≤◌, refl, ap, sym, ◌∙◌, subst, arith, ◌⊎◌, ◌↔◌, inl, inr, List, [], ◌∷◌, ◌++◌, length, Bool, true, false, cond, ◌==◌, eq-eqb, ne_eqb, get_or, take, drop, append_assoc, append-nil}
-use Rattle.std.specs.Prelude.{slice_index, slice_set, sum_by}
+use Rattle.std.proofs.Common.{◌≡◌, ℕ, ◌+◌, ◌<◌, ◌≤◌, refl, ap, sym, ◌∙◌, subst, arith, ◌⊎◌, ◌↔◌, inl, inr, List, [], ◌∷◌, ◌++◌, length, Bool, true, false, cond, get_or, take, append_assoc, append-nil}
+use Rattle.std.specs.Prelude.{slice_index}
 use Rattle.std.specs.List.{Contains, list_any, range_with_len}
 use Rattle.std.specs.Ordering.{nat_cmp, is_eq, is_gt, ordering_then}
 use Rattle.std.specs.Cmp.{nat_cmp_is}
@@ -10,16 +10,16 @@ use Rattle.std.specs.BTreeSet.{BTreeSet, contains}
 use Rattle.std.specs.BTreeMap.{is_at}
 use Rattle.std.proofs.lemmas.Bool.{cases_eq, cases_lt}
 use Rattle.std.proofs.lemmas.Cmp.{ranked}
-use Rattle.std.proofs.lemmas.List.{take_more, take_all, drop_all, get_or-set_same, get_or-set_other}
 use Rattle.std.proofs.lemmas.List.Elements.{Contains-get_or}
-use Rattle.std.proofs.lemmas.List.Sums.{sum_by-cons, sum_by_more, sum_by_more_le}
 use Rattle.bk_func.proofs.Faults.{In}
 use Rattle.bk_sched.specs.declared.turns.Turn.{Turn}
-use Rattle.bk_places.proofs.Elements.{to_in, to_contains, in_left, in_right, in_either}
+use Rattle.bk_places.proofs.Elements.{to_in, to_contains, in_left, in_right}
 use Rattle.bk_sched.specs.Turns.{StaysWithin}
 use Rattle.bk_places.specs.Search.{IsEdge}
-use Rattle.bk_sched.specs.Turns.{AreReady, IsDue, IsFree, Released, Turned, done, next, count_in, has_turn, total_in, turn_cmp}
-use Rattle.bk_sched.proofs.Leaving.{behind, led_from, left_of, left_under, left_more, left_less, all_new, range_all, none_led, some_led, some_count, count_cut, cut, Cut}
+use Rattle.bk_sched.specs.Turns.{AreReady, IsDue, IsFree, Released, Turned, done, next, has_turn, turn_cmp}
+use Rattle.bk_places.specs.Counts.{count_in, total_in}
+use Rattle.bk_places.proofs.Counting.{Ended, sum_range, take_before, take_here, before_taken}
+use Rattle.bk_places.proofs.Leaving.{behind, led_from, left_of, left_under, left_more, left_less, all_new, range_all, none_led, some_led, some_count, count_cut, cut, Cut}
 
 -- turns in their order
 
@@ -104,91 +104,11 @@ without_turn d old new h e = (forward, λ q. back q.0 q.1)
         go true q = absurd (n (sym (same_turn d e q)))
         go false q = k
 
--- counts
-
-abbrev pub hit : ℕ → ℕ → ℕ
-hit y t = cond (t == y) 1 0
-
-pub count_more : (y : ℕ) (ts : List ℕ) (i : ℕ) → i < length ts → count_in y (take (i + 1) ts) ≡ count_in y (take i ts) + hit y (get_or ts i 0)
-count_more y ts i h = sum_by_more (hit y) ts i 0 h
-
-pub hit_same : (y : ℕ) → hit y y ≡ 1
-hit_same y = rw (eq-eqb y y refl) refl
-
-pub hit_other : (y t : ℕ) → ¬ (t ≡ y) → hit y t ≡ 0
-hit_other y t n = rw (ne_eqb t y n) refl
-
--- an edge is there before it is taken off
-pub wait_left : (ts waits old : List ℕ) (i : ℕ) → i < length ts → ((y : ℕ) → slice_index waits y + count_in y (take i ts) ≡ slice_index old y) → ((y : ℕ) → count_in y ts ≤ slice_index old y) →
-    0 < slice_index waits (get_or ts i 0)
-wait_left ts waits old i h c enough =
-    let t = get_or ts i 0 in
-    let a = c t in
-    let b = enough t in
-    let l = sum_by_more_le (hit t) ts i 0 h in
-    let k = hit_same t in
-    omega (arith, a, b, l, k)
-
--- one edge less leads to a place
-pub record Ended (t : ℕ) (waits rest : List ℕ) : Type 0 where
-  pub some : 0 < slice_index waits t
-  pub here : slice_index rest t ≡ slice_index waits t - 1
-  pub other : (y : ℕ) → ¬ (y ≡ t) → slice_index rest y ≡ slice_index waits y
-
-pub ended_one : (t : ℕ) (waits rest : List ℕ) → t < length waits → 0 < slice_index waits t → rest ≡ slice_set waits t (slice_index waits t - 1) → Ended t waits rest
-ended_one t waits rest l some e = record {
-  some = some;
-  here = ap (λ xs. slice_index xs t) e ∙ get_or-set_same waits t (slice_index waits t - 1) 0 l;
-  other = λ y n. ap (λ xs. slice_index xs y) e ∙ get_or-set_other waits t y (slice_index waits t - 1) 0 n;
-}
-
-pub last_wait : (t : ℕ) (waits rest : List ℕ) → Ended t waits rest → (slice_index waits t ≡ 1 → slice_index rest t ≡ 0) × (slice_index rest t ≡ 0 → slice_index waits t ≡ 1)
-last_wait t waits rest u = let s = u.some in let h = u.here in (λ e. omega (arith, h, e), λ e. omega (arith, s, h, e))
-
-pub waits_more : (ts waits rest old : List ℕ) (i : ℕ) → i < length ts → Ended (get_or ts i 0) waits rest → ((y : ℕ) → slice_index waits y + count_in y (take i ts) ≡ slice_index old y) →
-    (y : ℕ) → slice_index rest y + count_in y (take (i + 1) ts) ≡ slice_index old y
-waits_more ts waits rest old i h u c y = go (cases_eq y (get_or ts i 0))
-  where
-    go : (y ≡ get_or ts i 0) ⊎ (y ≡ get_or ts i 0 → ⊥) → slice_index rest y + count_in y (take (i + 1) ts) ≡ slice_index old y
-    go (inl e) =
-        let P : ℕ → Type 0 = λ x. slice_index rest x + count_in x (take (i + 1) ts) ≡ slice_index old x in
-        let t = get_or ts i 0 in
-        let a = c t in
-        let m = count_more t ts i h in
-        let k = hit_same t in
-        let s = u.some in
-        let r = u.here in
-        subst P (sym e) (omega (arith, a, m, k, s, r))
-    go (inr n) =
-        let a = c y in
-        let m = count_more y ts i h in
-        let k = hit_other y (get_or ts i 0) (λ q. n (sym q)) in
-        let r = u.other y n in
-        omega (arith, a, m, k, r)
-
 -- what is released by one more place
 pub released_more : (scores ts waits rest : List ℕ) (old free now : BTreeSet Turn) (i : ℕ) → i < length ts → Ended (get_or ts i 0) waits rest → Released scores (take i ts) waits old free →
     ((t : Turn) → (has_turn now t ≡ true) ↔ ((has_turn free t ≡ true) ⊎ ((t.place ≡ get_or ts i 0) × IsDue scores rest t))) → Released scores (take (i + 1) ts) rest old now
 released_more scores ts waits rest old free now i h u r n = record { each = λ d. (forward d, back d) }
   where
-    front : (x : ℕ) → Contains (take i ts) x → Contains (take (i + 1) ts) x
-    front x c =
-        let P : List ℕ → Type 0 = λ ys. Contains ys x in
-        subst P (sym (take_more ts i 0 h)) (to_contains x (take i ts ++ get_or ts i 0 ∷ []) (in_left x (take i ts) (get_or ts i 0 ∷ []) (to_in x (take i ts) c)))
-
-    here : (x : ℕ) → x ≡ get_or ts i 0 → Contains (take (i + 1) ts) x
-    here x e =
-        let P : List ℕ → Type 0 = λ ys. Contains ys x in
-        subst P (sym (take_more ts i 0 h)) (to_contains x (take i ts ++ get_or ts i 0 ∷ []) (in_right x (take i ts) (get_or ts i 0 ∷ []) (inl (sym e))))
-
-    before : (x : ℕ) → Contains (take (i + 1) ts) x → ¬ (x ≡ get_or ts i 0) → Contains (take i ts) x
-    before x c m =
-        let P : List ℕ → Type 0 = λ ys. Contains ys x in
-        elim (in_either x (take i ts) (get_or ts i 0 ∷ []) (to_in x (take i ts ++ get_or ts i 0 ∷ []) (subst P (take_more ts i 0 h) c))) as (λ _. Contains (take i ts) x) [
-          | inl j ↦ to_contains x (take i ts) j
-          | inr j ↦ elim j as (λ _. Contains (take i ts) x) [ inl e ↦ absurd (m (sym e)) | inr k ↦ elim k [ ] ]
-        ]
-
     apart : (x : ℕ) → slice_index waits x ≡ 0 → ¬ (x ≡ get_or ts i 0)
     apart x z e = let s = u.some in let k = ap (slice_index waits) e in absurd (omega (arith, s, k, z))
 
@@ -197,11 +117,11 @@ released_more scores ts waits rest old free now i h u r n = record { each = λ d
       where
         was : (has_turn old d ≡ true) ⊎ (Contains (take i ts) d.place × IsDue scores waits d) → (has_turn old d ≡ true) ⊎ (Contains (take (i + 1) ts) d.place × IsDue scores rest d)
         was (inl q) = inl q
-        was (inr (c, (e, z))) = inr (front d.place c, (e, u.other d.place (apart d.place z) ∙ z))
+        was (inr (c, (e, z))) = inr (take_before d.place i ts h c, (e, u.other d.place (apart d.place z) ∙ z))
 
         go : (has_turn free d ≡ true) ⊎ ((d.place ≡ get_or ts i 0) × IsDue scores rest d) → (has_turn old d ≡ true) ⊎ (Contains (take (i + 1) ts) d.place × IsDue scores rest d)
         go (inl q) = was ((r.each d).0 q)
-        go (inr (p, (e, z))) = inr (here d.place p, (e, z))
+        go (inr (p, (e, z))) = inr (take_here d.place i ts h p, (e, z))
 
     back : (d : Turn) → (has_turn old d ≡ true) ⊎ (Contains (take (i + 1) ts) d.place × IsDue scores rest d) → has_turn now d ≡ true
     back d (inl q) = (n d).1 (inl ((r.each d).1 (inl q)))
@@ -209,7 +129,7 @@ released_more scores ts waits rest old free now i h u r n = record { each = λ d
       where
         go : (d.place ≡ get_or ts i 0) ⊎ (d.place ≡ get_or ts i 0 → ⊥) → has_turn now d ≡ true
         go (inl p) = (n d).1 (inr (p, (e, z)))
-        go (inr m) = (n d).1 (inl ((r.each d).1 (inr (before d.place c m, (e, sym (u.other d.place m) ∙ z)))))
+        go (inr m) = (n d).1 (inl ((r.each d).1 (inr (before_taken d.place i ts h c m, (e, sym (u.other d.place m) ∙ z)))))
 
 pub released_none : (scores waits : List ℕ) (old : BTreeSet Turn) → Released scores [] waits old old
 released_none scores waits old = record { each = λ d. (λ k. inl k, λ q. elim q as (λ _. has_turn old d ≡ true) [ inl k ↦ k | inr (c, (e, z)) ↦ elim (to_in d.place [] c) [ ] ]) }
@@ -260,26 +180,6 @@ pub record State (scores : List ℕ) (es : List (List ℕ)) (order waits : List 
   pub due : (t : Turn) → (has_turn ready t ≡ true) ↔ (In t.place (left_of (length scores) order) × IsDue scores waits t)
 
 -- the start
-
-get_middle : (pre : List (List ℕ)) (t : List ℕ) (ts : List (List ℕ)) → get_or (pre ++ t ∷ ts) (length pre) [] ≡ t
-get_middle [] t ts = refl
-get_middle (p ∷ pre) t ts = get_middle pre t ts
-
-length_end : (pre : List (List ℕ)) (t : List ℕ) → length (pre ++ t ∷ []) ≡ length pre + 1
-length_end [] t = refl
-length_end (p ∷ pre) t = let e = length_end pre t in omega (arith, e)
-
-sum_range : (g : List ℕ → ℕ) (pre ts : List (List ℕ)) (a : ℕ) → length pre ≡ a → sum_by (λ x. g (get_or (pre ++ ts) x [])) (range_with_len a (length ts)) ≡ sum_by g ts
-sum_range g pre [] a e = refl
-sum_range g pre (t ∷ ts) a e =
-    let s = sum_by-cons (λ (x : ℕ). g (get_or (pre ++ t ∷ ts) x [])) a (range_with_len (a + 1) (length ts)) in
-    let k = sum_by-cons g t ts in
-    let l : length (pre ++ t ∷ []) ≡ a + 1 = (let q = length_end pre t in omega (arith, q, e)) in
-    let r = sum_range g (pre ++ t ∷ []) ts (a + 1) l in
-    let P : List (List ℕ) → Type 0 = λ zs. sum_by (λ x. g (get_or zs x [])) (range_with_len (a + 1) (length ts)) ≡ sum_by g ts in
-    let rest = subst P (append_assoc pre (t ∷ []) ts) r in
-    let h : g (get_or (pre ++ t ∷ ts) a []) ≡ g t = ap (λ k. g (get_or (pre ++ t ∷ ts) k [])) (sym e) ∙ ap g (get_middle pre t ts) in
-    omega (arith, s, k, rest, h)
 
 pub state_start : (scores : List ℕ) (es : List (List ℕ)) (waits : List ℕ) (ready : BTreeSet Turn) → length es ≡ length scores → length waits ≡ length es → StaysWithin es →
     ((p : ℕ) → slice_index waits p ≡ total_in es p) → AreReady scores waits (length scores) ready → State scores es [] waits ready
@@ -457,11 +357,6 @@ state_end scores es order waits ready s out =
             let x = some_led es (left_of (length scores) order) p (omega (arith, b, z)) in
             f x.0 (to_contains x.0 (left_of (length scores) order) x.1) (to_contains p (behind es x.0) x.2)
 
--- lists that are put together
-pub with_same : (n : ℕ) (new old : List ℕ) → length new ≡ length old → length old ≡ n → take n (new ++ drop (length new) old) ≡ new
-with_same n new old e l =
-    ap (λ xs. take n (new ++ xs)) (drop_all (length new) old (omega (arith, e))) ∙ ap (take n) (append-nil new) ∙ take_all n new (omega (arith, e, l))
-
 -- places behind a place
 pub low_behind : (es : List (List ℕ)) → StaysWithin es → (p : ℕ) (qs : List ℕ) → qs ≡ get_or es p [] → (k d : ℕ) → k < length qs → get_or qs k d < length es
 low_behind es within p qs same k d l = within p (get_or qs k d) (subst (λ (us : List ℕ). Contains us (get_or qs k d)) same (Contains-get_or qs k d l))
@@ -469,7 +364,3 @@ low_behind es within p qs same k d l = within p (get_or qs k d) (subst (λ (us :
 -- a set without keys has no turn
 pub none_has : (ready : BTreeSet Turn) → ready.keys ≡ [] → (t : Turn) → has_turn ready t ≡ false
 none_has ready e t = ap (λ ks. list_any (is_at (turn_cmp t)) ks) e
-
-pub no_keys : (ks : List Turn) → ¬ (0 < length ks) → ks ≡ []
-no_keys [] n = refl
-no_keys (k ∷ ks) n = absurd (n (omega arith))

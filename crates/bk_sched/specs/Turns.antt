@@ -1,5 +1,5 @@
 -- Places in turn: each after those from which edges lead to it, the least score first.
-use Rattle.std.specs.Prelude.{◌≡◌, ℕ, ◌<◌, ◌≤◌, ◌↔◌, ◌⊎◌, ◌==◌, Bool, true, List, [], ◌∷◌, ◌++◌, count_by, sum_by, length, slice_index}
+use Rattle.std.specs.Prelude.{◌≡◌, ℕ, ◌<◌, ◌≤◌, ◌↔◌, ◌⊎◌, Bool, true, List, [], ◌∷◌, ◌++◌, length, slice_index}
 use Rattle.std.specs.List.{Contains}
 use Rattle.std.specs.Ordering.{nat_cmp, ordering_then}
 use Rattle.std.specs.declared.cmp.Ordering.{Ordering}
@@ -33,12 +33,6 @@ has_turn ready t = contains turn_cmp ready t
 -- the turn is that of its place, to which no edge leads any more
 abbrev pub IsDue : List ℕ → List ℕ → Turn → Type 0
 IsDue scores waits t = (t.score ≡ slice_index scores t.place) × (slice_index waits t.place ≡ 0)
-
-abbrev pub count_in : ℕ → List ℕ → ℕ
-count_in p ps = count_by (λ q. q == p) ps
-
-abbrev pub total_in : List (List ℕ) → ℕ → ℕ
-total_in es p = sum_by (λ ps. count_in p ps) es
 
 -- those of the first so many places to which no edge leads
 pub record AreReady (scores waits : List ℕ) (n : ℕ) (ready : BTreeSet Turn) : Type 0 where

@@ -13,8 +13,8 @@ use std::collections::BTreeMap;
 /// The numbers of a block's values in order, behind them those by which values name memory, and the first place of each.
 #[derive(Drop)]
 pub(crate) struct Places {
-    pub(crate) numbers: Vec<u32>,
-    pub(crate) by_number: BTreeMap<u32, usize>,
+    pub(crate) numbers: Vec<usize>,
+    pub(crate) by_number: BTreeMap<usize, usize>,
 }
 
 impl Places {
@@ -31,11 +31,11 @@ impl Places {
         requires { (n : ℕ) → get nat_cmp self.now.by_number n ≡ place_in self.now.numbers.items n }
         ensures { result ≡ place_in self.now.numbers.items id }
     {
-        self.by_number.get(&id).copied()
+        self.by_number.get(&(id as usize)).copied()
     }
 }
 
-fn numbers(alloc: Global, block: &Block) -> Result<Vec<u32>, AllocError>
+fn numbers(alloc: Global, block: &Block) -> Result<Vec<usize>, AllocError>
     ensures { IfOk result (λ numbers. AreKnown block.now.values numbers.items) }
 {
     let mut numbers = ids(alloc, &block.values)?;
@@ -46,21 +46,21 @@ fn numbers(alloc: Global, block: &Block) -> Result<Vec<u32>, AllocError>
     Ok(numbers)
 }
 
-fn ids(alloc: Global, values: &[Value]) -> Result<Vec<u32>, AllocError>
+fn ids(alloc: Global, values: &[Value]) -> Result<Vec<usize>, AllocError>
     ensures { IfOk result (λ ids. ids.items ≡ map (λ v. v.id) values.now) }
 {
     let mut ids = Vec::with_capacity(alloc, values.len())?;
     for value in values {
-        ids.push(value.id)?;
+        ids.push(value.id as usize)?;
     }
     Ok(ids)
 }
 
 /// Adds the number, if there is one.
-fn push_number(numbers: &mut Vec<u32>, number: Option<u32>) -> Result<(), AllocError>
+fn push_number(numbers: &mut Vec<usize>, number: Option<u32>) -> Result<(), AllocError>
     ensures { OnOk result (numbers.new.items ≡ pushed numbers.old.items number) }
 {
     let Some(number) = number else { return Ok(()) };
-    numbers.push(number)?;
+    numbers.push(number as usize)?;
     Ok(())
 }

@@ -1,7 +1,8 @@
 // Places in turn: each after those from which edges lead to it, the least score first.
 ghost use Rattle.std.specs.Prelude.{◌≡◌, ℕ, ◌+◌, ◌-◌, ◌<◌, ◌≤◌, ◌↔◌, IsTrue, IfOk, OnOk, length, slice_index, slice_set};
 ghost use Rattle.std.specs.List.{All, range_with_len};
-ghost use Rattle.bk_sched.specs.Turns.{AreReady, Released, StaysWithin, Turned, count_in, total_in};
+ghost use Rattle.bk_places.specs.Counts.{count_in, total_in};
+ghost use Rattle.bk_sched.specs.Turns.{AreReady, Released, StaysWithin, Turned};
 
 use bk_places::Edges;
 use std::alloc::{AllocError, Global};

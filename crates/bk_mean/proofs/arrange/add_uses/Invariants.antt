@@ -1,6 +1,6 @@
 use Rattle.std.proofs.Common.{◌≡◌, ℕ, ◌+◌, length, take}
 use Rattle.std.specs.Prelude.{slice_index}
-use Rattle.bk_mean.specs.Dues.{count_in}
+use Rattle.bk_places.specs.Counts.{count_in}
 use Rattle.bk_mean.proofs.arrange.add_uses.Given as goal
 
 abbrev pub invariant-loop-place : goal.invariant-loop-place

@@ -1,9 +1,11 @@
 use Rattle.std.proofs.Common.{rules, ◌≡◌, ℕ, ◌+◌, ◌<◌, ◌≤◌, ◌∙◌, sym, ap, subst, arith, List, [], ◌∷◌, ◌++◌, length, map, take, drop}
 use Rattle.std.specs.Prelude.{slice_index}
-use Rattle.bk_mean.specs.Dues.{AreFree, Released, taken_in, count_in, seen_due}
-use Rattle.bk_mean.proofs.Freeing.{left_of}
+use Rattle.bk_places.proofs.Counting.{with_same, no_keys}
+use Rattle.bk_places.proofs.Leaving.{left_of, left_shorter}
+use Rattle.bk_places.specs.Counts.{count_in}
+use Rattle.bk_mean.specs.Dues.{AreFree, Released, taken_in, seen_due}
 use Rattle.bk_mean.proofs.Releasing.{taken_of, taken_low, without_due}
-use Rattle.bk_mean.proofs.Arranging.{State, state_start, state_more, state_end, own_place, enough_uses, left_shorter, with_same, low_reverse, none_has, no_keys}
+use Rattle.bk_mean.proofs.Arranging.{State, state_start, state_more, state_end, own_place, enough_uses, low_reverse, none_has}
 use Rattle.std.proofs.lemmas.List.{length-map}
 use Rattle.bk_mean.proofs.arrange.arrange.Goals as goal
 

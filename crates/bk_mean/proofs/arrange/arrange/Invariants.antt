@@ -1,5 +1,5 @@
 use Rattle.std.proofs.Common.{map, length}
-use Rattle.bk_mean.proofs.Freeing.{left_of}
+use Rattle.bk_places.proofs.Leaving.{left_of}
 use Rattle.bk_mean.proofs.Arranging.{State}
 use Rattle.bk_mean.proofs.arrange.arrange.Given as goal
 

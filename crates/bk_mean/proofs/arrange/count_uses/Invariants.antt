@@ -1,6 +1,6 @@
 use Rattle.std.proofs.Common.{◌≡◌, ℕ, length, map, take}
 use Rattle.std.specs.Prelude.{slice_index}
-use Rattle.bk_mean.specs.Dues.{total_in}
+use Rattle.bk_places.specs.Counts.{total_in}
 use Rattle.bk_mean.proofs.arrange.count_uses.Given as goal
 
 abbrev pub invariant-loop-taken : goal.invariant-loop-taken

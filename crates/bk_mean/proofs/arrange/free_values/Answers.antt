@@ -2,7 +2,7 @@ use Rattle.std.proofs.Common.{◌≡◌, ◌<◌, ◌∙◌, sym, ap, arith, len
 use Rattle.std.specs.Prelude.{slice_index}
 use Rattle.bk_mean.specs.Arranged as meant
 use Rattle.bk_mean.specs.Dues.{due_in}
-use Rattle.bk_mean.proofs.Positions.{got_get_or}
+use Rattle.bk_places.proofs.Positions.{got_get_or}
 use Rattle.bk_mean.proofs.Releasing.{free_one, adds_none, adds_one, not_due}
 use Rattle.bk_mean.proofs.arrange.free_values.Goals as goal
 use Rattle.bk_mean.proofs.arrange.free_values.Goals.{in-Some+then-uses-place-eq0+in_ok-insert, in-Some+else-uses-place-eq0, in_default}

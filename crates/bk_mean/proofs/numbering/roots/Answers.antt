@@ -4,7 +4,7 @@ use Rattle.std.specs.Ordering.{nat_cmp}
 use Rattle.std.specs.BTreeMap.{get}
 use Rattle.bk_func.specs.Numbers.{values_of, room}
 use Rattle.bk_mean.specs.Numbering.{AreRoots, copied_by}
-use Rattle.bk_mean.proofs.Arranging.{with_same}
+use Rattle.bk_places.proofs.Counting.{with_same}
 use Rattle.bk_mean.proofs.Leaps.{places_are, roots_fewer}
 use Rattle.bk_mean.proofs.numbering.roots.Goals as goal
 

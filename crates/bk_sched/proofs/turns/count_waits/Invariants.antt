@@ -1,6 +1,6 @@
 use Rattle.std.proofs.Common.{◌≡◌, ℕ, length, take}
 use Rattle.std.specs.Prelude.{slice_index}
-use Rattle.bk_sched.specs.Turns.{total_in}
+use Rattle.bk_places.specs.Counts.{total_in}
 use Rattle.bk_sched.proofs.turns.count_waits.Given as goal
 
 abbrev pub invariant-loop-place : goal.invariant-loop-place

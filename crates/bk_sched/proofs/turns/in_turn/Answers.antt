@@ -1,8 +1,10 @@
 use Rattle.std.proofs.Common.{rules, ◌≡◌, ◌<◌, ◌≤◌, ◌+◌, ◌∙◌, sym, ap, subst, arith, ℕ, List, [], ◌∷◌, ◌++◌, length, take, drop}
 use Rattle.std.specs.Prelude.{slice_index}
-use Rattle.bk_sched.specs.Turns.{AreReady, Released, count_in}
-use Rattle.bk_sched.proofs.Leaving.{behind, left_of, left_shorter}
-use Rattle.bk_sched.proofs.Turning.{State, state_start, state_more, state_end, enough_waits, low_behind, without_turn, none_has, no_keys, with_same}
+use Rattle.bk_places.specs.Counts.{count_in}
+use Rattle.bk_sched.specs.Turns.{AreReady, Released}
+use Rattle.bk_places.proofs.Leaving.{behind, left_of, left_shorter}
+use Rattle.bk_places.proofs.Counting.{no_keys, with_same}
+use Rattle.bk_sched.proofs.Turning.{State, state_start, state_more, state_end, enough_waits, low_behind, without_turn, none_has}
 use Rattle.bk_sched.proofs.turns.in_turn.Goals as goal
 
 pub loop-next-init : goal.loop-next-init

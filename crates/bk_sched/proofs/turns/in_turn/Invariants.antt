@@ -1,5 +1,5 @@
 use Rattle.std.proofs.Common.{length}
-use Rattle.bk_sched.proofs.Leaving.{left_of}
+use Rattle.bk_places.proofs.Leaving.{left_of}
 use Rattle.bk_sched.proofs.Turning.{State}
 use Rattle.bk_sched.proofs.turns.in_turn.Given as goal
 

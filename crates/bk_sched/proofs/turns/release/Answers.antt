@@ -2,7 +2,8 @@ use Rattle.std.proofs.Common.{◌≡◌, ◌<◌, ◌-◌, ◌+◌, ◌∙◌, s
 use Rattle.std.specs.Prelude.{slice_index, ◌↔◌, ◌⊎◌}
 use Rattle.bk_sched.specs.declared.turns.Turn.{Turn}
 use Rattle.bk_sched.specs.Turns.{IsDue, has_turn, Released}
-use Rattle.bk_sched.proofs.Turning.{Ended, wait_left, ended_one, waits_more, released_more, adds_none, adds_one, last_wait}
+use Rattle.bk_places.proofs.Counting.{Ended, wait_left, ended_one, waits_more, last_wait}
+use Rattle.bk_sched.proofs.Turning.{released_more, adds_none, adds_one}
 use Rattle.bk_sched.proofs.turns.release.Goals as goal
 use Rattle.bk_sched.proofs.turns.release.Goals.{then-end_wait+in_ok-insert, else-end_wait}
 

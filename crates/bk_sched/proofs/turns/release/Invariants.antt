@@ -1,6 +1,7 @@
 use Rattle.std.proofs.Common.{◌≡◌, ℕ, ◌+◌, length, take}
 use Rattle.std.specs.Prelude.{slice_index}
-use Rattle.bk_sched.specs.Turns.{count_in, Released}
+use Rattle.bk_places.specs.Counts.{count_in}
+use Rattle.bk_sched.specs.Turns.{Released}
 use Rattle.bk_sched.proofs.turns.release.Given as goal
 
 abbrev pub invariant-loop-place : goal.invariant-loop-place

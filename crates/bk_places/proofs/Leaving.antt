@@ -7,8 +7,8 @@ use Rattle.std.proofs.lemmas.List.{length-append}
 use Rattle.std.proofs.lemmas.List.Sums.{sum_by-cons, sum_by-append}
 use Rattle.bk_func.proofs.Faults.{In, in-filter}
 use Rattle.bk_func.proofs.Needs.{in_any, any_in}
+use Rattle.bk_places.specs.Counts.{count_in}
 use Rattle.bk_places.proofs.Elements.{in_either, in_left, in_right}
-use Rattle.bk_sched.specs.Turns.{count_in}
 
 -- the places behind a place
 abbrev pub behind : List (List ℕ) → ℕ → List ℕ
@@ -30,7 +30,7 @@ left_of n order = filter (is_new order) (range_with_len 0 n)
 
 -- counts
 
-abbrev hit : ℕ → ℕ → ℕ
+abbrev pub hit : ℕ → ℕ → ℕ
 hit y t = cond (t == y) 1 0
 
 no_count : (y : ℕ) (ts : List ℕ) → count_in y ts ≡ 0 → ¬ In y ts
@@ -149,7 +149,7 @@ cut n order p i =
     let r = cut_from 0 n order p q.0 q.1 in
     record { front = r.0; back = r.1; before = r.2; after = r.3; less = r.4 }
 
--- what is left es what is left
+-- what leads from those that are left, with a place and without it
 pub count_cut : (es : List (List ℕ)) (n : ℕ) (order : List ℕ) (p : ℕ) → In p (left_of n order) → (y : ℕ) → led_from es (left_of n order) y ≡ led_from es (left_of n (order ++ p ∷ [])) y + count_in y (behind es p)
 count_cut es n order p i y =
     let c = cut n order p i in
