@@ -1,5 +1,5 @@
 -- Order after an application, and with it all of form.
-use Rattle.std.proofs.Common.{◌≡◌, ℕ, refl, sym, subst, List, [], Bool, Some}
+use Rattle.std.proofs.Common.{◌≡◌, ℕ, refl, sym, subst, List, [], Bool}
 use Rattle.bk_func.specs.Records.{ValueRecord, BlockRecord, FuncRecord}
 use Rattle.bk_func.specs.declared.form.FormKind.{FormKind}
 use Rattle.bk_func.specs.declared.form.FormKind.TheVariants.{Control, Missing, Arity, Ty, Width, Use, Memory, Order}
@@ -42,7 +42,7 @@ reached_after t n r d i = each_block t.f t.b t.k t.x t.v t.root t.made t.visit (
     (let w = r c (in_old t.f (after t) t.x (block_after t) c d p) in
     let b = beside t.f (after t) t.x (block_after t) (turned_at t).over (turned_at t).shape c w.0 w.1 in
     let e : b.last ≡ d = one_partner (after t) t.f (block_after t) t.x (turn_shape t.x (block_after t) (turned_at t).shape) n b.last d c
-        (turn t.f (after t) t.x (block_after t) c b.last b.pair) (turn t.f (after t) t.x (block_after t) c d p) in
+    (turn t.f (after t) t.x (block_after t) c b.last b.pair) (turn t.f (after t) t.x (block_after t) c d p) in
     let P : BlockRecord → Type 0 = λ z. IsReached (after t) z in
     subst P e (b.before, b.walk))) d i
 
@@ -90,5 +90,5 @@ form_kept s r f b k x v bs cs h d y z reached form =
       value = λ w j. base_suffices g c (in_turn s g (but_order s g p) c (a c i)) (λ u p. n c u (i, starts_in g c u u p) p) w;
     } in
     let some : ¬ (g.blocks ≡ []) = (let P : FuncRecord → Type 0 = λ z. ¬ (z.blocks ≡ []) in subst P (sym e) (λ l.
-        (let i = to_in (block_after t) (after t).blocks (root_in t).0 in elim (subst (λ z. In (block_after t) z) l i) [ ]))) in
+    (let i = to_in (block_after t) (after t).blocks (root_in t).0 in elim (subst (λ z. In (block_after t) z) l i) [ ]))) in
     (record { blocks = some; kinds = all_kinds s g p o }, a)
