@@ -12,7 +12,8 @@ use Rattle.bk_func.specs.Form.States.{IsState, Names}
 use Rattle.bk_func.specs.Form.Before.{IsLoad, IsNilCheck, IsResult}
 use Rattle.bk_func.specs.Form.Signatures.{Setting}
 use Rattle.bk_func.proofs.Faults.{In}
-use Rattle.bk_form_laws.specs.Base.{BaseBefore, argument, state, checks, BasePrecedes, right, onward}
+use Rattle.bk_order_laws.specs.Base.{BaseBefore, argument, state, checks, BasePrecedes, right, onward}
+use Rattle.bk_order_laws.proofs.First.{base_onward}
 use Rattle.bk_mean.proofs.Named.{IsNamed, to_in, to_contains, got_in, in_got}
 use Rattle.bk_mean.proofs.Dominance.{Home, home, one_dominates, defined_from, defined_here, arguments_defined}
 use Rattle.bk_form_laws.proofs.Lists.{set_here, set_other, front}
@@ -22,10 +23,6 @@ use Rattle.bk_form_laws.proofs.New.{IsTaken}
 use Rattle.bk_form_laws.proofs.Steps.{Step, after, block_after, Pairs, named_before, here, pair_here, turned_at, is_v, each, there, argument_there, names_back}
 use Rattle.bk_form_laws.proofs.EasyKinds.{each_block}
 use Rattle.bk_form_laws.proofs.MemoryKept.{IsCalm, state_back}
-
-pub base_onward : (f : FuncRecord) (b : BlockRecord) (t u v : ValueRecord) → BasePrecedes f b t u → BasePrecedes f b u v → BasePrecedes f b t v
-base_onward f b _ _ v (right t u h) k = onward t u v h k
-base_onward f b _ _ v (onward t u w h l) k = onward t u v h (base_onward f b u w v l k)
 
 -- what is under a value of a reached block, and stands in the block too, comes before it there
 under_first : (s : Setting) (f : FuncRecord) → Keeps s f Missing → IsNamed f → Keeps s f Use → (x : BlockRecord) → IsReached f x → (m n : ℕ) → Under f m n → (w u : ValueRecord) → HasValue f x w → w.id ≡ m → HasValue f x u → u.id ≡ n → BasePrecedes f x u w

@@ -9,7 +9,7 @@ use Rattle.bk_func.specs.Form.Signatures.{Setting}
 use Rattle.bk_rule.specs.declared.trees.Bound.{Bound}
 use Rattle.bk_rule.specs.declared.trees.Rule.{Rule}
 use Rattle.bk_rule.specs.Match.{IsMatch}
-use Rattle.bk_form_laws.specs.Base.{BasePrecedes}
+use Rattle.bk_order_laws.specs.Base.{BasePrecedes}
 
 -- the rule matches at the value v, which stands at place k of block x, at place b
 pub record Applies (s : Setting) (r : Rule) (f : FuncRecord) (b k : ℕ) (x : BlockRecord) (v : ValueRecord) (bs : List Bound) (cs : List Bool) : Type 0 where

@@ -3,11 +3,8 @@
 
 ghost use Rattle.std.specs.Prelude.{ℕ, Bool, List};
 ghost use Rattle.bk_func.specs.Records.{ValueRecord, BlockRecord, FuncRecord};
-ghost use Rattle.bk_func.specs.Form.{Keeps};
-ghost use Rattle.bk_func.specs.Form.Text.{HasBlock};
+ghost use Rattle.bk_func.specs.Form.{IsFormed};
 ghost use Rattle.bk_func.specs.Form.Signatures.{Setting};
-ghost use Rattle.bk_func.specs.declared.form.FormKind.TheVariants.{Order};
-ghost use Rattle.bk_form_laws.specs.Base.{AreInTurn};
 ghost use Rattle.bk_rule.specs.declared.trees.Bound.{Bound};
 ghost use Rattle.bk_rule.specs.declared.trees.Rule.{Rule};
 ghost use Rattle.bk_rewrite.specs.Making.{source, applied};
@@ -39,10 +36,9 @@ pub fn rules_make_no_cycle()
         IsRead r → KeepsTypes s r → IsPure r → Nearly s f → AllReached f → HasNoCycle f → HasNoCycle (applied (source f bs s.target) r.right b k v) }
 {}
 
-/// A law: such a rule keeps Order, where the states of each block of the new function are in turn.
-pub fn rules_keep_order()
+/// A law: so such a rule keeps form, in strict form and in word form, where each block is reached; and each block stays so.
+pub fn rules_keep_form()
     ensures { (s : Setting) (r : Rule) (f : FuncRecord) (b k : ℕ) (x : BlockRecord) (v : ValueRecord) (bs : List Bound) (cs : List Bool) → Applies s r f b k x v bs cs →
-        IsRead r → KeepsTypes s r → IsPure r → Nearly s f → AllReached f → Keeps s f Order →
-        ((c : BlockRecord) → HasBlock (applied (source f bs s.target) r.right b k v) c → AreInTurn (applied (source f bs s.target) r.right b k v) c) →
-        Keeps s (applied (source f bs s.target) r.right b k v) Order }
+        IsRead r → KeepsTypes s r → IsPure r → AllReached f → IsFormed s f →
+        IsFormed s (applied (source f bs s.target) r.right b k v) × AllReached (applied (source f bs s.target) r.right b k v) }
 {}
