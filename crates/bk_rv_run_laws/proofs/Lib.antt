@@ -4,3 +4,4 @@ pub mod Opening
 pub mod Starting
 pub mod Returning
 pub mod Crossing
+pub mod Turning

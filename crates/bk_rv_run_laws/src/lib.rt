@@ -9,6 +9,7 @@ ghost use Rattle.bk_run_laws.specs.Follows.{Follows, Meets};
 ghost use Rattle.bk_run_laws.specs.Standing.{ArePlaces, OneBlock, BlockLaw};
 ghost use Rattle.bk_rv_run_laws.specs.Calling.{CallsFollow, PackagesRun};
 ghost use Rattle.bk_rv_run_laws.specs.Edges.{WaysKeep, EdgesFollow};
+ghost use Rattle.bk_rv_run_laws.specs.Left.{JumpFollows, BranchFollows, ExitFollows};
 ghost use Rattle.bk_rv_run_laws.specs.Relation.{Image, Beside, IsBack, HasResults, riscv64, standing, RetEnds};
 ghost use Rattle.bk_rv_run_laws.specs.Within.{CallsReturn};
 
@@ -42,6 +43,14 @@ pub fn machines_meet_the_meaning()
 pub fn edges_are_followed()
     ensures ways { WaysKeep }
     ensures edges { EdgesFollow }
+{}
+
+/// A law: from where the lines of a block's end stand, the machine follows how the block is left: on to its successor, on to the
+/// one that the control's low bit chooses, or to trap 6 at the end of a program.
+pub fn blocks_are_left()
+    ensures jumps { JumpFollows }
+    ensures branches { BranchFollows }
+    ensures exits { ExitFollows }
 {}
 
 /// A law: where the machine follows runs from the entries of blocks, it follows calls, from the beginning of a function on, with its
