@@ -7,15 +7,15 @@ in bk_work: never commit it with a change that is to be taken."""
 import os, re, shutil, sys
 ROOT = sys.argv[1] + "/crates"
 FUNCS = {
-    "bk_alloc": ["allocate"], "bk_calls": ["word_areas"], "bk_dump": ["claim_order"], "bk_elf": [], "bk_fixup": ["keys_of"],
+    "bk_alloc": ["allocate_by"], "bk_calls": ["word_areas_by"], "bk_dump": ["claim_order"], "bk_elf": [], "bk_fixup": ["keys_of"],
     "bk_graph": ["is_joined", "layout", "split_critical", "clean"], "bk_link": ["is_linkable", "link"], "bk_live": [],
     "bk_rewrite": ["rewrite_by", "index_rules"], "bk_rule": ["copy_rules"], "bk_rv_emit": ["emit"], "bk_sched": ["has_own_numbers", "schedule"],
-    "bk_dec64": ["decompose"], "bk_arm_emit": ["emit"], "bk_emit": [], "bk_arm_isa": [],
+    "bk_dec64": ["decompose_by"], "bk_arm_emit": ["emit"], "bk_emit": [], "bk_arm_isa": [],
     "bk_rv_isa": [], "bk_shuffle": [], "bk_machine": [], "bk_rules_words": [], "bk_form": [], "bk_text": [], "bk_dump_laws": [],
 }
 LISTS = {"bk_rules_arm": "arm", "bk_rules_dec64": "dec64", "bk_rules_generic": "generic", "bk_rules_rv": "rv"}
 WHOLE = {("bk_calls", "frame")}
-BODY = {"decompose": "Err(RewriteError::Memory)", "word_areas": "Err(RewriteError::Memory)", "link": "Err(LinkError::Memory)", "rewrite_by": "Err(RewriteError::Memory)"}
+BODY = {"decompose_by": "Err(RewriteError::Memory)", "word_areas_by": "Err(RewriteError::Memory)", "link": "Err(LinkError::Memory)", "rewrite_by": "Err(RewriteError::Memory)"}
 TEXT = [("bk_link", re.compile(r"(IsErrOf result \(LinkError\.Text n\)) ↔ (.*) \}$"), r"(\1 → \2) × (n ≡ n) }")]
 
 def read(p):
@@ -146,7 +146,7 @@ def ghosts(it):
     return out
 
 # roots: what bk_work and the crates that stay cite
-STAY = ["bk_work", "bk_code_laws", "bk_core", "bk_share", "bk_piece", "bk_func", "bk_ops", "bk_num", "bk_io"]
+STAY = ["bk_work", "bk_callees", "bk_code_laws", "bk_core", "bk_share", "bk_piece", "bk_func", "bk_ops", "bk_num", "bk_io"]
 for s in STAY:
     for dirpath, dirs, files in os.walk(f"{ROOT}/{s}"):
         dirs[:] = [d for d in dirs if d != "out"]

@@ -1,8 +1,6 @@
 -- The words of the calls of a function.
 use Rattle.std.specs.Prelude.{◌≡◌, ℕ, ◌+◌, ◌≤◌, ◌==◌, ◌&&◌, not, Bool, true, false, if◌then◌else◌, List, Option, Some, None}
-use Rattle.std.specs.BTreeSet.{BTreeSet, contains}
 use Rattle.std.specs.List.{find, list_any}
-use Rattle.std.specs.Ordering.{nat_cmp}
 use Rattle.bk_ops.specs.declared.family.Family.{Family}
 use Rattle.bk_ops.specs.declared.types.Target.{Target}
 use Rattle.bk_ops.specs.Families.{is_word_call}
@@ -43,12 +41,3 @@ pub record AreMost (t : Target) (called : ℕ → Bool) (gs : List FuncRecord) (
 
 abbrev pub IsOutgoing : Target → PackageRecord → FuncRecord → ℕ → Type 0
 IsOutgoing t p f n = AreMost t (calls f.blocks) p.funcs n
-
--- one of these functions has the name
-abbrev pub has_name : ℕ → List FuncRecord → Bool
-has_name s gs = list_any (λ g. g.name == s) gs
-
--- the names that are called and that none of these functions has, and the most words of these functions
-pub record AreLeft (t : Target) (called : ℕ → Bool) (gs : List FuncRecord) (names : BTreeSet ℕ) (n : ℕ) : Type 0 where
-  pub left : (s : ℕ) → contains nat_cmp names s ≡ (called s && not (has_name s gs))
-  pub most : AreMost t called gs n

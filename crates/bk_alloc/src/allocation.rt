@@ -1,5 +1,6 @@
 // The whole allocation.
 ghost use Rattle.std.specs.Prelude.{◌≡◌, map, IfOk};
+ghost use Rattle.bk_callees.specs.Callees.{AreCallees};
 ghost use Rattle.bk_live.specs.Live.{AllNextUses, IsOrdered};
 ghost use Rattle.bk_alloc.specs.Blocks.{Next};
 ghost use Rattle.bk_alloc.specs.Placement.{allotted, IsPlacement, IsPlacing};
@@ -10,6 +11,7 @@ use crate::outgoing::outgoing;
 use crate::parts::{Parts, allot};
 use crate::plan::Plans;
 use crate::steps::{Names, placed_blocks};
+use bk_callees::Callees;
 use bk_func::{Func, Memory, Package, Placed, PlacedBlock};
 use bk_live::Table;
 use bk_ops::Target;
@@ -22,8 +24,9 @@ use std::alloc::{AllocError, Global};
 /// value leaves whose next use is farthest. `orders` has the schedule of each block, in block order. The placement is the
 /// one by the next uses of the function in these orders.
 ///
-/// A word beyond the eighth of those that pass in registers, phis of one number, and a signature of more words than a u32
-/// counts are answered as want of memory; no function in word form has them.
+/// A word beyond the eighth of those that pass in registers, phis of one number, a signature of more words than a u32
+/// counts, and a call of a name that the package does not have are answered as want of memory; no function in word form has
+/// them.
 pub fn allocate(
     alloc: Global,
     func: &Func,
@@ -34,9 +37,26 @@ pub fn allocate(
 ) -> Result<Placed, Memory>
     ensures { (next : Next) → IsOrdered func.now (map (λ o. o.items) orders.now) → AllNextUses func.now (map (λ o. o.items) orders.now) next → IfOk result (IsPlacement next target pkg.now func.now layout.now (map (λ o. o.items) orders.now)) }
 {
+    let callees = Callees::new(alloc, pkg)?;
+    allocate_by(alloc, func, pkg, &callees, layout, orders, target)
+}
+
+/// The same by the callees of the package, which serve any count of functions.
+pub fn allocate_by(
+    alloc: Global,
+    func: &Func,
+    pkg: &Package,
+    callees: &Callees,
+    layout: &[u32],
+    orders: &[Vec<u32>],
+    target: Target,
+) -> Result<Placed, Memory>
+    requires { AreCallees pkg.now callees.now }
+    ensures { (next : Next) → IsOrdered func.now (map (λ o. o.items) orders.now) → AllNextUses func.now (map (λ o. o.items) orders.now) next → IfOk result (IsPlacement next target pkg.now func.now layout.now (map (λ o. o.items) orders.now)) }
+{
     let parts = allotted(alloc, func, layout, orders, target)?;
     let (blocks, slots) = place(alloc, &parts, target)?;
-    let out = outgoing(alloc, func, pkg, target)?;
+    let out = outgoing(func, pkg, callees, target)?;
     Ok(Placed { blocks, slots, out })
 }
 

@@ -14,5 +14,5 @@ mod registers;
 mod steps;
 mod walk;
 
-pub use allocation::allocate;
+pub use allocation::{allocate, allocate_by};
 pub use bk_func::Memory;

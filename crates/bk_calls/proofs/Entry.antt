@@ -11,7 +11,7 @@ use Rattle.bk_func.specs.Numbers.{natural}
 use Rattle.bk_func.specs.Records.{ValueRecord}
 use Rattle.bk_calls.specs.Areas.{made_for, stays}
 use Rattle.bk_calls.specs.Arguments.{is_named, arg_reg, arg_regs, argument_number}
-use Rattle.bk_calls.proofs.Found.{map_or, found_one}
+use Rattle.bk_callees.proofs.Found.{map_or, found_one}
 use Rattle.bk_calls.proofs.Noted.{or_none}
 
 -- they stay as they are, and nothing is made for them

@@ -1,7 +1,6 @@
 pub mod Remaining
 pub mod Borne
 pub mod Counted
-pub mod Found
 pub mod Noted
 pub mod Planned
 pub mod Linked

@@ -28,21 +28,20 @@ same_plan p q registers arguments results firsts ends own =
     ∙ ap (λ (o : ℕ). plan q.registers q.arguments q.results q.firsts q.ends o) own))))
 
 -- a plan whose tables say this of a function's blocks
-pub planned : (p p' : PackageRecord) (t : Target) (f : FuncRecord) (q : WordPlan) (bs cs ds : List BlockRecord) (tys : List Ty) → p' ≡ p
-    → bs ≡ f.blocks → cs ≡ f.blocks → ds ≡ f.blocks → tys ≡ f.sig.args → q.registers ≡ register_words t
+pub planned : (p : PackageRecord) (t : Target) (f : FuncRecord) (q : WordPlan) (bs cs ds : List BlockRecord) (tys : List Ty) → bs ≡ f.blocks
+    → cs ≡ f.blocks → ds ≡ f.blocks → tys ≡ f.sig.args → q.registers ≡ register_words t
     → ((i : ℕ) → q.arguments i ≡ unwrap_or (argument_number (arguments_of t f) i) 0)
-    → ((n : ℕ) → q.results n ≡ unwrap_or (option_map (result_word p' t) (call_named (flat_map (λ b. b.values) bs) n)) 0)
+    → ((n : ℕ) → q.results n ≡ unwrap_or (option_map (result_word p t) (call_named (flat_map (λ b. b.values) bs) n)) 0)
     → ((k : ℕ × ℕ) → q.firsts k ≡ unwrap_or (option_map (λ v. v.id) (result_named q.registers (flat_map (λ b. b.values) cs) k)) 0)
     → ((n : ℕ) → q.ends n ≡ option_map (λ v. last v.args) (end_named (flat_map (λ b. b.values) ds) n))
     → q.own ≡ count_words t tys → q ≡ plan_of p t f
-planned p p' t f q bs cs ds tys same b c d y registers arguments results firsts ends own =
+planned p t f q bs cs ds tys b c d y registers arguments results firsts ends own =
     let values : List BlockRecord → List ValueRecord = λ bs. flat_map (λ (b : BlockRecord). b.values) bs in
     let first : ℕ → ℕ × ℕ → List BlockRecord → ℕ =
     λ r k bs. unwrap_or (option_map (λ (v : ValueRecord). v.id) (result_named r (values bs) k)) 0
     in
     same_plan q (plan_of p t f) registers arguments
-    (λ n. results n ∙ (ap (λ (x : PackageRecord). unwrap_or (option_map (result_word x t) (call_named (values bs) n)) 0) same
-    ∙ ap (λ (xs : List BlockRecord). unwrap_or (option_map (result_word p t) (call_named (values xs) n)) 0) b))
+    (λ n. results n ∙ ap (λ (xs : List BlockRecord). unwrap_or (option_map (result_word p t) (call_named (values xs) n)) 0) b)
     (λ k. firsts k ∙ (ap (λ (r : ℕ). first r k cs) registers ∙ ap (λ (xs : List BlockRecord). first (register_words t) k xs) c))
     (λ n. ends n ∙ ap (λ (xs : List BlockRecord). option_map (λ (v : ValueRecord). last v.args) (end_named (values xs) n)) d)
     (own ∙ ap (count_words t) y)

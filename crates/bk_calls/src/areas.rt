@@ -2,6 +2,7 @@
 ghost use Rattle.std.specs.Prelude.{◌≡◌, ◌+◌, ◌++◌, ℕ, filter, flat_map, sum_by, true, false, IfOk, OnOk, IfErr, ◌⊎◌};
 ghost use Rattle.std.specs.BTreeMap.{get};
 ghost use Rattle.std.specs.Ordering.{nat_cmp};
+ghost use Rattle.bk_callees.specs.Callees.{AreCallees};
 ghost use Rattle.bk_calls.specs.Areas.{areas_of, area_block, area_control, area_values, made_for, made_in, numbered, stays};
 ghost use Rattle.bk_calls.specs.Arguments.{arguments_of, argument_number, first_made};
 ghost use Rattle.bk_calls.specs.Budget.{is_grown};
@@ -12,7 +13,8 @@ use crate::arguments::{Arguments, add_to_entry};
 use crate::budget::is_grown;
 use crate::plan::{Plan, is_end};
 use crate::turn::turn;
-use bk_func::{Block, Func, MOST_VALUES_MADE, Package, RewriteError, Value};
+use bk_callees::Callees;
+use bk_func::{Block, Func, MOST_VALUES_MADE, Memory, Package, RewriteError, Value};
 use bk_ops::Target;
 use std::alloc::{AllocError, Global};
 
@@ -42,6 +44,26 @@ pub fn word_areas(
     ensures grown { IfErr result (λ e. (e ≡ RewriteError.Memory) ⊎ ((e ≡ RewriteError.Grown 32769) × (is_grown target func.old ≡ true))) }
     ensures kept { IfErr result (λ e. e ≡ RewriteError.Grown 32769 → func.new ≡ func.old) }
 {
+    match Callees::new(alloc, pkg) {
+        Ok(callees) => word_areas_by(alloc, func, pkg, &callees, target),
+        Err(Memory) => Err(RewriteError::Memory),
+    }
+}
+
+/// The same by the callees of the package, which serve any count of functions.
+pub fn word_areas_by(
+    alloc: Global,
+    func: &mut Func,
+    pkg: &Package,
+    callees: &Callees,
+    target: Target,
+) -> Result<(), RewriteError>
+    requires { AreCallees pkg.now callees.now }
+    ensures ok { OnOk result (func.new ≡ areas_of pkg.now target func.old) }
+    ensures room { OnOk result (is_grown target func.old ≡ false) }
+    ensures grown { IfErr result (λ e. (e ≡ RewriteError.Memory) ⊎ ((e ≡ RewriteError.Grown 32769) × (is_grown target func.old ≡ true))) }
+    ensures kept { IfErr result (λ e. e ≡ RewriteError.Grown 32769 → func.new ≡ func.old) }
+{
     let Ok(arguments) = Arguments::of(alloc, func, target) else {
         return Err(RewriteError::Memory);
     };
@@ -50,7 +72,7 @@ pub fn word_areas(
         Some(true) => Err(RewriteError::Grown {
             values: MOST_VALUES_MADE as u64 + 1,
         }),
-        Some(false) => match put_in_words(alloc, func, pkg, target, arguments) {
+        Some(false) => match put_in_words(alloc, func, pkg, callees, target, arguments) {
             Ok(()) => Ok(()),
             Err(AllocError) => Err(RewriteError::Memory),
         },
@@ -61,9 +83,11 @@ fn put_in_words(
     alloc: Global,
     func: &mut Func,
     pkg: &Package,
+    callees: &Callees,
     target: Target,
     arguments: Arguments,
 ) -> Result<(), AllocError>
+    requires callees { AreCallees pkg.now callees.now }
     requires values { arguments.values.items ≡ arguments_of target func.old }
     requires numbers { (i : ℕ) → get nat_cmp arguments.numbers i ≡ argument_number (arguments_of target func.old) i }
     requires next { arguments.next ≡ first_made target func.old }
@@ -74,7 +98,7 @@ fn put_in_words(
         numbers,
         next,
     } = arguments;
-    let plan = Plan::new(alloc, func, pkg, target, numbers)?;
+    let plan = Plan::new(alloc, func, pkg, callees, target, numbers)?;
     add_to_entry(&mut func.blocks, values)?;
     turn_blocks(alloc, &plan, &mut func.blocks, next)
 }

@@ -12,7 +12,8 @@ mod plan;
 mod role;
 mod turn;
 
-pub use areas::word_areas;
+pub use areas::{word_areas, word_areas_by};
+pub use bk_callees::Callees;
 pub use bk_func::RewriteError;
 pub use frame::{FrameError, frame_of};
 pub use laws::{growth_is_counted, numbers_of_words, only_words_are_left};

@@ -3,16 +3,18 @@ ghost use Rattle.std.specs.Prelude.{◌≡◌, ◌==◌, ◌&&◌, ◌≤◌, �
 ghost use Rattle.std.specs.Option.{option_or};
 ghost use Rattle.std.specs.BTreeMap.{get};
 ghost use Rattle.std.specs.Ordering.{nat_cmp};
+ghost use Rattle.bk_callees.specs.Callees.{AreCallees};
 ghost use Rattle.bk_func.specs.Words.{count_words, register_words};
 ghost use Rattle.bk_calls.specs.Areas.{plan_of, call_named, end_named, result_named, result_word, is_end, is_key};
 ghost use Rattle.bk_calls.specs.Arguments.{arguments_of, argument_number};
 ghost use Rattle.bk_calls.specs.Chains.{role, is_call, last, result_key};
-ghost use Rattle.bk_calls.specs.Plans.{seen_plan, pair_cmp, AreCallees};
+ghost use Rattle.bk_calls.specs.Plans.{seen_plan, pair_cmp};
 
-use crate::callees::Callees;
+use crate::callees::args_of;
 use crate::chains::last;
 use crate::role::{Role, role_of};
 use crate::turn::result_key;
+use bk_callees::Callees;
 use bk_func::{Block, Func, Package, Value, count_words, register_words};
 use bk_ops::{Target, Ty};
 use std::alloc::{AllocError, Global};
@@ -42,15 +44,16 @@ impl Plan {
         alloc: Global,
         func: &Func,
         pkg: &Package,
+        callees: &Callees,
         target: Target,
         arguments: BTreeMap<u32, u32>,
     ) -> Result<Plan, AllocError>
-        requires { (i : ℕ) → get nat_cmp arguments i ≡ argument_number (arguments_of target func.now) i }
+        requires callees { AreCallees pkg.now callees.now }
+        requires arguments { (i : ℕ) → get nat_cmp arguments i ≡ argument_number (arguments_of target func.now) i }
         ensures plan { IfOk result (λ plan. seen_plan plan ≡ plan_of pkg.now target func.now) }
         ensures registers { IfOk result (λ plan. plan.registers ≡ register_words target) }
     {
-        let callees = Callees::new(alloc, pkg)?;
-        let results = result_words(alloc, &callees, target, &func.blocks)?;
+        let results = result_words(alloc, pkg, callees, target, &func.blocks)?;
         let registers = register_count(target);
         let firsts = first_results(alloc, registers, &func.blocks)?;
         let ends = ends(alloc, &func.blocks)?;
@@ -116,46 +119,49 @@ fn words(target: Target, types: &[Ty]) -> Result<u32, AllocError>
 /// The first word of the results of each call, behind the words of its arguments, by the call's number.
 fn result_words(
     alloc: Global,
+    pkg: &Package,
     callees: &Callees,
     target: Target,
     blocks: &[Block],
 ) -> Result<BTreeMap<u32, u32>, AllocError>
-    requires { AreCallees callees.now }
-    ensures { IfOk result (λ map. (n : ℕ) → get nat_cmp map n ≡ option_map (result_word callees.now.pkg.now target) (call_named (flat_map (λ b. b.values) blocks.now) n)) }
+    requires { AreCallees pkg.now callees.now }
+    ensures { IfOk result (λ map. (n : ℕ) → get nat_cmp map n ≡ option_map (result_word pkg.now target) (call_named (flat_map (λ b. b.values) blocks.now) n)) }
 {
     let mut words = BTreeMap::new(alloc);
     for block in blocks {
-        note_calls(&mut words, callees, target, &block.values)?;
+        note_calls(&mut words, pkg, callees, target, &block.values)?;
     }
     Ok(words)
 }
 
 fn note_calls(
     map: &mut BTreeMap<u32, u32>,
+    pkg: &Package,
     callees: &Callees,
     target: Target,
     values: &[Value],
 ) -> Result<(), AllocError>
-    requires { AreCallees callees.now }
-    ensures { OnOk result ((n : ℕ) → get nat_cmp map.new n ≡ option_or (get nat_cmp map.old n) (option_map (result_word callees.now.pkg.now target) (call_named values.now n))) }
+    requires { AreCallees pkg.now callees.now }
+    ensures { OnOk result ((n : ℕ) → get nat_cmp map.new n ≡ option_or (get nat_cmp map.old n) (option_map (result_word pkg.now target) (call_named values.now n))) }
 {
     for value in values {
-        note_call(map, callees, target, value)?;
+        note_call(map, pkg, callees, target, value)?;
     }
     Ok(())
 }
 
 fn note_call(
     map: &mut BTreeMap<u32, u32>,
+    pkg: &Package,
     callees: &Callees,
     target: Target,
     value: &Value,
 ) -> Result<(), AllocError>
-    requires { AreCallees callees.now }
-    ensures { OnOk result ((n : ℕ) → get nat_cmp map.new n ≡ option_or (get nat_cmp map.old n) (if is_call (role value.now) && value.now.id == n then Some (result_word callees.now.pkg.now target value.now) else None)) }
+    requires { AreCallees pkg.now callees.now }
+    ensures { OnOk result ((n : ℕ) → get nat_cmp map.new n ≡ option_or (get nat_cmp map.old n) (if is_call (role value.now) && value.now.id == n then Some (result_word pkg.now target value.now) else None)) }
 {
     if role_of(value.op.family) == Role::Call {
-        let word = words(target, callees.args_of(value.aux))?;
+        let word = words(target, args_of(callees, pkg, value.aux))?;
         note(map, value.id, word)?;
     }
     Ok(())

@@ -1,5 +1,3 @@
 pub mod Changed
-pub mod Found
 pub mod InWords
 pub mod Placed
-pub mod Planned

@@ -9,7 +9,7 @@ use Rattle.std.proofs.lemmas.Bool.Decides.{nat_tests}
 use Rattle.std.proofs.lemmas.Option.{none-some}
 use Rattle.bk_func.specs.Records.{ValueRecord, BlockRecord}
 use Rattle.bk_func.specs.Edits.{change_block, with_value}
-use Rattle.bk_dec64.proofs.Found.{position_more}
+use Rattle.bk_callees.proofs.Found.{position_more}
 
 -- a look-up by numbers finds the same number
 is_at_number : (x n : ℕ) → is_at (nat_cmp x) n ≡ (x == n)

@@ -1,5 +1,6 @@
 // The function in halves.
 ghost use Rattle.std.specs.Prelude.{◌≡◌, ◌+◌, ◌++◌, OnOk, IfOk, IfErr, IfSome, ◌⊎◌, false, true, length, sum_by};
+ghost use Rattle.bk_callees.specs.Callees.{AreCallees};
 ghost use Rattle.bk_dec64.specs.Budget.{is_grown, is_past};
 ghost use Rattle.bk_dec64.specs.Decomposed.{changed, decomposed, listed, made_for, made_in, made_of, turned, turned_block, turned_func};
 ghost use Rattle.bk_dec64.specs.Named.{seen_plan};
@@ -7,9 +8,12 @@ ghost use Rattle.bk_dec64.specs.Named.{seen_plan};
 use crate::growth::Growth;
 use crate::halves::Home;
 use crate::places::place_all;
-use crate::plan::Plan;
+use crate::tables::Plan;
 use crate::turn::turn;
-use bk_func::{Block, Func, MOST_VALUES_MADE, Package, RewriteError, Value, greatest_value};
+use bk_callees::Callees;
+use bk_func::{
+    Block, Func, MOST_VALUES_MADE, Memory, Package, RewriteError, Value, greatest_value,
+};
 use std::alloc::{AllocError, Global};
 
 /// Turns the numbers of 64 bits that a function takes, gives, keeps and passes on into two halves each, for a machine with
@@ -30,10 +34,28 @@ pub fn decompose(alloc: Global, func: &mut Func, pkg: &Package) -> Result<(), Re
     ensures room { OnOk result (is_grown pkg.now func.old ≡ false) }
     ensures grown { IfErr result (λ e. (e ≡ RewriteError.Memory) ⊎ ((e ≡ RewriteError.Grown 32769) × (is_grown pkg.now func.old ≡ true))) }
 {
+    match Callees::new(alloc, pkg) {
+        Ok(callees) => decompose_by(alloc, func, pkg, &callees),
+        Err(Memory) => Err(RewriteError::Memory),
+    }
+}
+
+/// The same by the callees of the package, which serve any count of functions.
+pub fn decompose_by(
+    alloc: Global,
+    func: &mut Func,
+    pkg: &Package,
+    callees: &Callees,
+) -> Result<(), RewriteError>
+    requires { AreCallees pkg.now callees.now }
+    ensures ok { OnOk result (func.new ≡ decomposed pkg.now func.old) }
+    ensures room { OnOk result (is_grown pkg.now func.old ≡ false) }
+    ensures grown { IfErr result (λ e. (e ≡ RewriteError.Memory) ⊎ ((e ≡ RewriteError.Grown 32769) × (is_grown pkg.now func.old ≡ true))) }
+{
     let Some(count) = count_values(&func.blocks) else {
         return Err(RewriteError::Memory);
     };
-    let Ok(growth) = taken_apart(alloc, func, pkg) else {
+    let Ok(growth) = taken_apart(alloc, func, pkg, callees) else {
         return Err(RewriteError::Memory);
     };
     if is_past(count, growth.made.len() as u64) {
@@ -67,11 +89,17 @@ fn is_past(count: u64, more: u64) -> bool
 }
 
 /// Turns the values of a function, and lists what is made for them.
-fn taken_apart(alloc: Global, func: &mut Func, pkg: &Package) -> Result<Growth, AllocError>
+fn taken_apart(
+    alloc: Global,
+    func: &mut Func,
+    pkg: &Package,
+    callees: &Callees,
+) -> Result<Growth, AllocError>
+    requires { AreCallees pkg.now callees.now }
     ensures func { OnOk result (func.new ≡ turned_func pkg.now func.old) }
     ensures made { IfOk result (λ growth. growth.made.items ≡ made_of pkg.now func.old) }
 {
-    let plan = Plan::new(alloc, func, pkg)?;
+    let plan = Plan::new(alloc, func, pkg, callees)?;
     let Some(next) = greatest_value(func).checked_add(1) else {
         return Err(AllocError);
     };

@@ -1,7 +1,6 @@
 //! Numbers of 64 bits in halves, as a machine with words of 32 bits has them.
 #![tactic(auto)]
 
-mod callees;
 mod decomposed;
 mod growth;
 mod halves;
@@ -9,7 +8,8 @@ mod made;
 mod places;
 mod plan;
 mod role;
+mod tables;
 mod turn;
 
 pub use bk_func::RewriteError;
-pub use decomposed::decompose;
+pub use decomposed::{decompose, decompose_by};

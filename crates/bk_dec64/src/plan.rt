@@ -1,38 +1,37 @@
-// The signatures that the values of a function speak of.
+// The signatures that the values of a function speak of are found.
 ghost use Rattle.std.specs.Prelude.{◌≡◌, ◌==◌, ◌&&◌, ℕ, IfOk, OnOk, option_map, unwrap_or, None, Some, flat_map, if◌then◌else◌};
 ghost use Rattle.std.specs.Option.{option_or};
 ghost use Rattle.std.specs.BTreeMap.{get};
 ghost use Rattle.std.specs.Ordering.{nat_cmp};
-ghost use Rattle.bk_dec64.specs.Signatures.{signatures_of, call_named, role, is_call};
+ghost use Rattle.bk_callees.specs.Callees.{AreCallees};
+ghost use Rattle.bk_dec64.specs.Signatures.{signatures_of, args_of, call_named, results_of, role, is_call};
+ghost use Rattle.bk_func.specs.Form.Signatures.{sig_of};
 ghost use Rattle.bk_dec64.specs.Named.{seen_plan};
 
-use crate::callees::Callees;
 use crate::role::{Role, role_of};
+use crate::tables::Plan;
+use bk_callees::Callees;
 use bk_func::{Aux, Block, Func, Package, Sig, Value, copy_sig};
 use bk_ops::Ty;
 use std::alloc::{AllocError, Global};
 use std::collections::BTreeMap;
 
-/// The signatures that the values of a function speak of.
-#[derive(Drop)]
-pub(crate) struct Plan<'a> {
-    pub(crate) callees: Callees<'a>,
-    /// By the number of a call what stands beside it.
-    pub(crate) calls: BTreeMap<u32, Aux>,
-    /// The function's own signature.
-    pub(crate) own: Sig,
-}
-
 impl<'a> Plan<'a> {
-    pub(crate) fn new(alloc: Global, func: &Func, pkg: &'a Package) -> Result<Plan<'a>, AllocError>
+    pub(crate) fn new(
+        alloc: Global,
+        func: &Func,
+        pkg: &'a Package,
+        callees: &'a Callees,
+    ) -> Result<Plan<'a>, AllocError>
+        requires { AreCallees pkg.now callees.now }
         ensures { IfOk result (λ plan. seen_plan plan ≡ signatures_of pkg.now func.now) }
     {
-        let callees = Callees::new(alloc, pkg)?;
         let calls = calls(alloc, &func.blocks)?;
         let Ok(own) = copy_sig(alloc, &func.sig) else {
             return Err(AllocError);
         };
         Ok(Plan {
+            pkg,
             callees,
             calls,
             own,
@@ -43,7 +42,7 @@ impl<'a> Plan<'a> {
     pub(crate) fn args(&self, aux: Aux) -> &'a [Ty]
         ensures { result.now ≡ (seen_plan self.now).args aux }
     {
-        self.callees.args(aux)
+        args_of(self.callees, self.pkg, aux)
     }
 
     /// The types of what the call with this number gives.
@@ -51,9 +50,31 @@ impl<'a> Plan<'a> {
         ensures { result.now ≡ (seen_plan self.now).results call }
     {
         match self.calls.get(&call).copied() {
-            Some(aux) => self.callees.results(aux),
+            Some(aux) => results_of(self.callees, self.pkg, aux),
             None => &[],
         }
+    }
+}
+
+/// The types of the arguments of the function that a call names.
+fn args_of<'a>(callees: &Callees, pkg: &'a Package, aux: Aux) -> &'a [Ty]
+    requires { AreCallees pkg.now callees.now }
+    ensures { result.now ≡ args_of (sig_of pkg.now aux) }
+{
+    match callees.callee(pkg, aux) {
+        Some(func) => &func.sig.args,
+        None => &[],
+    }
+}
+
+/// The types of the results of the function that a call names.
+fn results_of<'a>(callees: &Callees, pkg: &'a Package, aux: Aux) -> &'a [Ty]
+    requires { AreCallees pkg.now callees.now }
+    ensures { result.now ≡ results_of (sig_of pkg.now aux) }
+{
+    match callees.callee(pkg, aux) {
+        Some(func) => &func.sig.results,
+        None => &[],
     }
 }
 

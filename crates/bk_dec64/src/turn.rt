@@ -7,8 +7,8 @@ ghost use Rattle.bk_dec64.specs.Named.{seen_plan};
 
 use crate::growth::{Growth, of_64};
 use crate::halves::{Home, half_of_phi, in_words, is_double, word_at};
-use crate::plan::Plan;
 use crate::role::{Role, role_of};
+use crate::tables::Plan;
 use bk_func::{Aux, Value};
 use bk_ops::{Family, Ty};
 use smallvec::SmallVec;

@@ -5,7 +5,7 @@ use Rattle.std.specs.Ordering.{nat_cmp}
 use Rattle.bk_func.specs.Records.{ValueRecord, BlockRecord}
 use Rattle.bk_calls.specs.Areas.{is_end, end_named}
 use Rattle.bk_calls.specs.Chains.{last}
-use Rattle.bk_calls.proofs.Found.{found_in_more}
+use Rattle.bk_callees.proofs.Found.{found_in_more}
 use Rattle.bk_calls.proofs.plan.ends.Goals as goal
 
 pub loop-block-preserved : goal.loop-block-preserved

@@ -5,7 +5,7 @@ use Rattle.bk_func.specs.Records.{ValueRecord, BlockRecord}
 use Rattle.bk_calls.specs.Areas.{is_key, result_named}
 use Rattle.bk_calls.specs.Chains.{result_key}
 use Rattle.bk_calls.specs.Plans.{pair_cmp}
-use Rattle.bk_calls.proofs.Found.{found_in_more}
+use Rattle.bk_callees.proofs.Found.{found_in_more}
 use Rattle.bk_calls.proofs.plan.first_results.Goals as goal
 
 pub loop-block-preserved : goal.loop-block-preserved

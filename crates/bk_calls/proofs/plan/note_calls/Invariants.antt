@@ -7,4 +7,4 @@ use Rattle.bk_calls.proofs.plan.note_calls.Given as goal
 
 abbrev pub invariant-loop-value : goal.invariant-loop-value
 invariant-loop-value l =
-    (n : ℕ) → get nat_cmp l.map n ≡ option_or (get nat_cmp l.initial.map n) (option_map (result_word l.callees.pkg.now l.target) (call_named (take l.value-index l.values) n))
+    (n : ℕ) → get nat_cmp l.map n ≡ option_or (get nat_cmp l.initial.map n) (option_map (result_word l.pkg l.target) (call_named (take l.value-index l.values) n))

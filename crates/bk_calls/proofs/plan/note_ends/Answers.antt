@@ -4,7 +4,7 @@ use Rattle.std.specs.Ordering.{nat_cmp}
 use Rattle.bk_func.specs.Records.{ValueRecord}
 use Rattle.bk_calls.specs.Areas.{is_end}
 use Rattle.bk_calls.specs.Chains.{last}
-use Rattle.bk_calls.proofs.Found.{found_more}
+use Rattle.bk_callees.proofs.Found.{found_more}
 use Rattle.bk_calls.proofs.plan.note_ends.Goals as goal
 
 pub loop-value-preserved : goal.loop-value-preserved

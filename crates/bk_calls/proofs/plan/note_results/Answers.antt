@@ -4,7 +4,7 @@ use Rattle.bk_func.specs.Records.{ValueRecord}
 use Rattle.bk_calls.specs.Areas.{is_key}
 use Rattle.bk_calls.specs.Chains.{result_key}
 use Rattle.bk_calls.specs.Plans.{pair_cmp}
-use Rattle.bk_calls.proofs.Found.{found_more}
+use Rattle.bk_callees.proofs.Found.{found_more}
 use Rattle.bk_calls.proofs.plan.note_results.Goals as goal
 
 pub loop-value-preserved : goal.loop-value-preserved

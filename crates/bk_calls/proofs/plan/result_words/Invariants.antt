@@ -6,4 +6,4 @@ use Rattle.bk_calls.proofs.plan.result_words.Given as goal
 
 abbrev pub invariant-loop-block : goal.invariant-loop-block
 invariant-loop-block l =
-    (n : ℕ) → get nat_cmp l.words n ≡ option_map (result_word l.callees.pkg.now l.target) (call_named (flat_map (λ b. b.values) (take l.block-index l.blocks)) n)
+    (n : ℕ) → get nat_cmp l.words n ≡ option_map (result_word l.pkg l.target) (call_named (flat_map (λ b. b.values) (take l.block-index l.blocks)) n)

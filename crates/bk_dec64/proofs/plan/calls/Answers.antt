@@ -4,7 +4,7 @@ use Rattle.std.specs.Option.{option_or}
 use Rattle.std.specs.Ordering.{nat_cmp}
 use Rattle.bk_func.specs.Records.{ValueRecord, BlockRecord}
 use Rattle.bk_dec64.specs.Signatures.{call_named, is_call, role}
-use Rattle.bk_dec64.proofs.Found.{found_in_more}
+use Rattle.bk_callees.proofs.Found.{found_in_more}
 use Rattle.bk_dec64.proofs.plan.calls.Goals as goal
 
 pub loop-block-preserved : goal.loop-block-preserved

@@ -3,7 +3,7 @@ use Rattle.std.specs.BTreeMap.{get}
 use Rattle.std.specs.Ordering.{nat_cmp}
 use Rattle.bk_func.specs.Records.{ValueRecord}
 use Rattle.bk_dec64.specs.Signatures.{is_call, role}
-use Rattle.bk_dec64.proofs.Found.{found_more}
+use Rattle.bk_callees.proofs.Found.{found_more}
 use Rattle.bk_dec64.proofs.plan.note_calls.Goals as goal
 
 pub loop-value-preserved : goal.loop-value-preserved

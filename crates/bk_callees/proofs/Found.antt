@@ -91,10 +91,18 @@ firsts_more name xs i x old new n l e before after s m =
     none_or (Some y) = refl
 
 -- the element at the noted place is the first with the name
-pub named_at : {A : Type 0} (name : A → ℕ) (xs : List A) (firsts : List (Option ℕ)) (n s : ℕ) → length firsts ≡ n
-    → ((s : ℕ) → s < n → get_or firsts s None ≡ position (λ y. name y == s) xs)
-    → option_and_then (slice_get xs) (get_or firsts s None) ≡ cond (nat_lt s n) (find (λ y. name y == s) xs) None
-named_at name xs firsts n s count first = ⊎_elim
-    (λ (l : s < n). rw (lt-ltb s n l, find_position (λ y. name y == s) xs, ← (first s l)) refl)
-    (λ g. rw (le-ltb s n g, get_or_past firsts s None (rw count g)) refl)
+pub first_at : {A : Type 0} (name : A → ℕ) (xs : List A) (firsts : List (Option ℕ)) (n s k : ℕ) → length firsts ≡ n
+    → ((s : ℕ) → s < n → get_or firsts s None ≡ position (λ y. name y == s) xs) → get_or firsts s None ≡ Some k
+    → slice_get xs k ≡ cond (nat_lt s n) (find (λ y. name y == s) xs) None
+first_at name xs firsts n s k count first e = ⊎_elim
+    (λ (l : s < n). rw (lt-ltb s n l, find_position (λ y. name y == s) xs, ← (first s l), e) refl)
+    (λ g. cc (sym (get_or_past firsts s None (rw count g)) ∙ e))
+    (cases_lt s n)
+
+pub none_first : {A : Type 0} (name : A → ℕ) (xs : List A) (firsts : List (Option ℕ)) (n s : ℕ)
+    → ((s : ℕ) → s < n → get_or firsts s None ≡ position (λ y. name y == s) xs) → get_or firsts s None ≡ None
+    → None ≡ cond (nat_lt s n) (find (λ y. name y == s) xs) None
+none_first name xs firsts n s first e = ⊎_elim
+    (λ (l : s < n). rw (lt-ltb s n l, find_position (λ y. name y == s) xs, ← (first s l), e) refl)
+    (λ g. rw (le-ltb s n g) refl)
     (cases_lt s n)

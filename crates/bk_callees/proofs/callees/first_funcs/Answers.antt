@@ -1,6 +1,6 @@
 use Rattle.std.proofs.Common.{◌∙◌, arith}
-use Rattle.bk_dec64.proofs.Found.{firsts_more}
-use Rattle.bk_dec64.proofs.callees.first_funcs.Goals as goal
+use Rattle.bk_callees.proofs.Found.{firsts_more}
+use Rattle.bk_callees.proofs.callees.first_funcs.Goals as goal
 
 pub loop-place-preserved : goal.loop-place-preserved
 loop-place-preserved c =

@@ -1,7 +1,7 @@
 use Rattle.std.proofs.Common.{List, subst}
 use Rattle.bk_alloc.specs.Blocks.{PartRecord}
 use Rattle.bk_alloc.specs.Placement.{IsPlacing}
-use Rattle.bk_alloc.proofs.allocation.allocate.Goals as goal
+use Rattle.bk_alloc.proofs.allocation.allocate_by.Goals as goal
 
 pub returns : goal.returns
 returns c = λ next ordered uses. record {
