@@ -90,7 +90,7 @@ rest s r f b k x v bs cs h d reached form p n =
       value = λ w j. base_suffices g c (in_turn s g (but_order s g p) c (a c i)) (λ u p. n c u (i, starts_in g c u u p) p) w;
     } in
     let some : ¬ (g.blocks ≡ []) = (let P : FuncRecord → Type 0 = λ z. ¬ (z.blocks ≡ []) in subst P (sym e) (λ l.
-        (let i = to_in (block_after t) (after t).blocks (root_in t).0 in elim (subst (λ z. In (block_after t) z) l i) [ ]))) in
+    (let i = to_in (block_after t) (after t).blocks (root_in t).0 in elim (subst (λ z. In (block_after t) z) l i) [ ]))) in
     (record { blocks = some; kinds = all_kinds s g p o }, a)
 
 no_cycle_of : (s : Setting) (f : FuncRecord) → IsFormed s f → HasNoCycle f

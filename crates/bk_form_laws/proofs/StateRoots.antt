@@ -215,7 +215,7 @@ state_no_cycle s r f b k x v bs cs h d y z l q reached n =
     let a = state_calmed s r f b k x v bs cs h d y z q in
     let e = applied_is s r f b k x v bs cs h in
     let role : KeepsRole v.op.family (root_by s r f bs v).op.family = new_role r.right c z.variable v.id v.ty (next_number f) v.op.family z.right
-        (old_root r.left f bs v.id cs v (λ o. AtMade r.right (λ q. KeepsRole o.family q.family)) l h.matches.stands (found_value f (is_named s f q.framed.missing) x v v.id (here t) refl)) in
+    (old_root r.left f bs v.id cs v (λ o. AtMade r.right (λ q. KeepsRole o.family q.family)) l h.matches.stands (found_value f (is_named s f q.framed.missing) x v v.id (here t) refl)) in
     let p : IsPlaced t = placed s r f b k x v bs cs h d q reached a.calm a.silent_made
-        (λ m j. (λ i. load_to v.op.family (role.0 (load_from (root_by s r f bs v).op.family i)), λ i. check_to v.op.family (role.1 (check_from (root_by s r f bs v).op.family i)))) in
+    (λ m j. (λ i. load_to v.op.family (role.0 (load_from (root_by s r f bs v).op.family i)), λ i. check_to v.op.family (role.1 (check_from (root_by s r f bs v).op.family i)))) in
     (let P : FuncRecord → Type 0 = λ g. HasNoCycle g in subst P (sym e) (base_kept t p n))
