@@ -1,8 +1,11 @@
 -- A visit makes no cycle in the base of the order inside a block.
-use Rattle.std.proofs.Common.{◌≡◌, ℕ, zero, suc, ◌<◌, refl, ap, sym, subst, ◌∙◌, arith, ◌⊎◌, inl, inr, List, [], ◌∷◌, ◌++◌, Some}
+use Rattle.std.proofs.Common.{◌≡◌, ℕ, zero, suc, ◌<◌, refl, ap, sym, subst, ◌∙◌, arith, ◌⊎◌, inl, inr, List, [], ◌∷◌, ◌++◌, Some, true, false}
 use Rattle.std.specs.Prelude.{slice_get, slice_set}
 use Rattle.std.specs.List.{Contains}
 use Rattle.std.proofs.lemmas.Bool.{cases_eq}
+use Rattle.bk_ops.specs.Families.{is_word_result}
+use Rattle.bk_ops.specs.declared.family.Family.{Family}
+use Rattle.bk_ops.specs.declared.family.Family.TheVariants as op
 use Rattle.bk_func.specs.Records.{ValueRecord, BlockRecord, FuncRecord}
 use Rattle.bk_func.specs.declared.form.FormKind.TheVariants.{Missing, Use, Memory}
 use Rattle.bk_func.specs.Form.{Keeps}
@@ -14,6 +17,7 @@ use Rattle.bk_func.specs.Form.Signatures.{Setting}
 use Rattle.bk_func.proofs.Faults.{In}
 use Rattle.bk_order_laws.specs.Base.{BaseBefore, argument, state, checks, BasePrecedes, right, onward}
 use Rattle.bk_order_laws.proofs.First.{base_onward}
+use Rattle.bk_form_laws.specs.Fits.{is_special}
 use Rattle.bk_mean.proofs.Named.{IsNamed, to_in, to_contains, got_in, in_got}
 use Rattle.bk_mean.proofs.Dominance.{Home, home, one_dominates, defined_from, defined_here, arguments_defined}
 use Rattle.bk_form_laws.proofs.Lists.{set_here, set_other, front}
@@ -67,7 +71,7 @@ pub record IsPlaced (t : Step) : Type 0 where
   pub reached : IsReached t.f t.x
   pub takes : (w : ValueRecord) → (w ≡ t.root) ⊎ In w t.made → (n : ℕ) → In n w.args → IsTaken t.f t.v.id t.made n
   pub rising : (w : ValueRecord) → In w t.made → (u : ValueRecord) → In u t.made → In u.id w.args → u.id < w.id
-  pub silent : (n : ℕ) → ¬ Names (after t) t.root n
+  pub role : (n : ℕ) → Names (after t) t.root n → (IsLoad t.root → IsLoad t.v) × (IsNilCheck t.root → IsNilCheck t.v)
   pub silent_made : (w : ValueRecord) → In w t.made → (n : ℕ) → ¬ Names (after t) w n
 
 Place : Step → BlockRecord → ValueRecord → Type 0
@@ -127,12 +131,7 @@ old_argument t q c a b u hu iu hb p j = right u b (argument u b (hu.1, hb.1, p, 
     id (inr (i, inl r)) = ap (λ (y : ValueRecord). y.id) i ∙ (sym t.visit.same ∙ ap (λ (y : ValueRecord). y.id) (sym r))
     id (inr (i, inr r)) = (let z = to_in a.id b.args j in let k = in_got b.args a.id z in let n = argument_there t c b hb k.0 a.id k.1 in absurd (t.visit.fresh a r n.0 n.1 n.2 n.3))
 
--- where nothing but old values name a state
-old_one : (t : Step) → IsPlaced t → (a u : ValueRecord) → Is t a u → (n : ℕ) → Names (after t) a n → (u ≡ a) × ¬ (a.id ≡ t.v.id)
-old_one t q a u (inl i) n h = i
-old_one t q a u (inr (i, inl r)) n h = absurd (q.silent n (let P : ValueRecord → Type 0 = λ y. Names (after t) y n in subst P r h))
-old_one t q a u (inr (i, inr r)) n h = absurd (q.silent_made a r n h)
-
+-- ---- values that name a state
 old_names : (t : Step) → IsPlaced t → (c : BlockRecord) (a u : ValueRecord) → HasValue t.f c u → u ≡ a → (n : ℕ) → Names (after t) a n → Names t.f u n
 old_names t q c a u h e n k = names_back t q.calm.names c u h n (let P : ValueRecord → Type 0 = λ y. Names (after t) y n in subst P (sym e) k)
 
@@ -158,6 +157,75 @@ place_back t c d p a h n i e = go p.same
     go (inl z) = (let P : BlockRecord → Type 0 = λ y. slice_get y.values i ≡ Some a in subst P (sym z) e)
     go (inr z) = (let P : BlockRecord → Type 0 = λ y. slice_get y.values i ≡ Some a in subst P (sym z.0) (at (subst P z.1 e)))
 
+-- the place of root is that of v
+root_place : (t : Step) (c d : BlockRecord) → Pairs t c d → HasValue t.f c t.v → (i : ℕ) → slice_get d.values i ≡ Some t.root → slice_get c.values i ≡ Some t.v
+root_place t c d p h i e = go p.same
+  where
+    old : slice_get c.values i ≡ Some t.root → slice_get c.values i ≡ Some t.v
+    old g = (let P : ValueRecord → Type 0 = λ y. slice_get c.values i ≡ Some y in
+        subst P ((is_v t c t.root (h.0, to_contains t.root c.values (got_in c.values i t.root g)) t.visit.same).1) g)
+
+    at : c ≡ t.x → slice_get (block_after t).values i ≡ Some t.root → slice_get c.values i ≡ Some t.v
+    at z g = elim (cases_eq t.k i) [
+      | inl w ↦ (let P : BlockRecord → Type 0 = λ y. slice_get y.values i ≡ Some t.v in subst P (sym z) (subst (λ m. slice_get t.x.values m ≡ Some t.v) w t.visit.stands))
+      | inr w ↦ (elim (appended t.x.values t.made i t.root (sym (set_other (t.x.values ++ t.made) t.k i t.root w) ∙ g)) [
+        | inl r ↦ (let P : BlockRecord → Type 0 = λ y. slice_get y.values i ≡ Some t.root in old (subst P (sym z) r))
+        | inr r ↦ absurd (t.visit.fresh t.root r t.x t.v (here t) (sym t.visit.same))
+      ])
+    ]
+
+    go : (c ≡ d) ⊎ ((c ≡ t.x) × (d ≡ block_after t)) → slice_get c.values i ≡ Some t.v
+    go (inl z) = old (let P : BlockRecord → Type 0 = λ y. slice_get y.values i ≡ Some t.root in subst P (sym z) e)
+    go (inr z) = at z.0 (let P : BlockRecord → Type 0 = λ y. slice_get y.values i ≡ Some t.root in subst P z.1 e)
+
+no_word : (o : Family) → is_special o ≡ false → is_word_result o ≡ true → ⊥
+no_word op.ResWord z e = cc
+no_word op.ResReg z e = cc
+no_word _ z e = cc
+
+plain_result : (w : ValueRecord) → is_special w.op.family ≡ false → IsResult w → ⊥
+plain_result w p (inl e) = no_word w.op.family p e
+plain_result w p (inr e) = (let d = ap is_special e.0 in cc)
+
+-- what a value of g that names a state stands for names it too, and is what that is
+record One (t : Step) (c d : BlockRecord) (a u : ValueRecord) (n : ℕ) : Type 0 where
+  id : u.id ≡ a.id
+  names : Names t.f u n
+  kind : IsLoad a ⊎ IsNilCheck a ⊎ IsResult a → IsLoad u ⊎ IsNilCheck u ⊎ IsResult u
+  check : IsNilCheck a → IsNilCheck u
+  place : (i : ℕ) → slice_get d.values i ≡ Some a → slice_get c.values i ≡ Some u
+
+one : (t : Step) → IsPlaced t → (c d : BlockRecord) → Pairs t c d → (a u : ValueRecord) → HasValue t.f c u → Is t a u → (n : ℕ) → Names (after t) a n → One t c d a u n
+one t q c d p a u hu (inl i) n h = record {
+  id = ap (λ (y : ValueRecord). y.id) i.0;
+  names = old_names t q c a u hu i.0 n h;
+  kind = (let P : ValueRecord → Type 0 = λ y. IsLoad y ⊎ IsNilCheck y ⊎ IsResult y in λ r. subst P (sym i.0) r);
+  check = (let P : ValueRecord → Type 0 = λ y. IsNilCheck y in λ r. subst P (sym i.0) r);
+  place = λ j e. (let G : ValueRecord → Type 0 = λ y. slice_get c.values j ≡ Some y in
+      let H : ValueRecord → Type 0 = λ y. HasValue t.f c y in
+      subst G (sym i.0) (place_back t c d p a (subst H i.0 hu) i.1 j e));
+}
+one t q c d p a u hu (inr (i, inl r)) n h =
+    let N : ValueRecord → Type 0 = λ y. Names (after t) y n in
+    let k : Names (after t) t.root n = subst N r h in
+    let L : ValueRecord → Type 0 = λ y. IsLoad y in
+    let C : ValueRecord → Type 0 = λ y. IsNilCheck y in
+    let S : ValueRecord → Type 0 = λ y. IsResult y in record {
+      id = ap (λ (y : ValueRecord). y.id) i ∙ (sym t.visit.same ∙ ap (λ (y : ValueRecord). y.id) (sym r));
+      names = (let P : ValueRecord → Type 0 = λ y. Names t.f y n in subst P (sym i) (q.calm.names.of_root_back n k));
+      kind = λ z. elim z as (λ _. IsLoad u ⊎ IsNilCheck u ⊎ IsResult u) [
+        | inl e ↦ inl (subst L (sym i) ((q.role n k).0 (subst L r e)))
+        | inr (inl e) ↦ inr (inl (subst C (sym i) ((q.role n k).1 (subst C r e))))
+        | inr (inr e) ↦ absurd (plain_result t.root q.calm.plain (subst S r e))
+      ];
+      check = λ e. subst C (sym i) ((q.role n k).1 (subst C r e));
+      place = λ j e. (let G : ValueRecord → Type 0 = λ y. slice_get c.values j ≡ Some y in
+          let H : ValueRecord → Type 0 = λ y. HasValue t.f c y in
+          let D : ValueRecord → Type 0 = λ y. slice_get d.values j ≡ Some y in
+          subst G (sym i) (root_place t c d p (subst H i hu) j (subst D r e)));
+    }
+one t q c d p a u hu (inr (i, inr r)) n h = absurd (q.silent_made a r n h)
+
 edge : (t : Step) → IsPlaced t → (c d : BlockRecord) → Pairs t c d → (a b : ValueRecord) → BaseBefore (after t) d a b → (u v : ValueRecord) → HasValue t.f c u → Is t a u → HasValue t.f c v → Is t b v → Edge t c a b u v
 edge t q c d p _ _ (argument a b (ca, cb, np, j)) u v hu iu hv (inl i) =
     let P : ValueRecord → Type 0 = λ y. HasValue t.f c y in
@@ -165,21 +233,16 @@ edge t q c d p _ _ (argument a b (ca, cb, np, j)) u v hu iu hv (inl i) =
     inl (subst Q (sym i.0) (old_argument t q c a b u hu iu (subst P i.0 hv) np j))
 edge t q c d p _ _ (argument a b (ca, cb, np, j)) u v hu iu hv (inr i) = new_argument t q c d p a b u v hu iu hv i.0 i.1 (to_in a.id b.args j)
 edge t q c d p _ _ (state a b s ca r na sb nb) u v hu iu hv iv =
-    let x = old_one t q a u iu s na in
-    let y = old_one t q b v iv s nb in
+    let x = one t q c d p a u hu iu s na in
+    let y = one t q c d p b v hv iv s nb in
     let (z, sz, e) = state_back t q.calm q.memory c d p b.id (b, sb, refl) in
-    let w : z ≡ v = (named_before t).same_value c c z v sz.0 hv (e ∙ ap (λ (y : ValueRecord). y.id) (sym y.0)) in
-    let P : ValueRecord → Type 0 = λ y. IsLoad y ⊎ IsNilCheck y ⊎ IsResult y in
+    let w : z ≡ v = (named_before t).same_value c c z v sz.0 hv (e ∙ sym y.id) in
     let Q : ValueRecord → Type 0 = λ y. IsState t.f c y in
-    inl (right u v (state u v s hu.1 (subst P (sym x.0) r) (old_names t q c a u hu x.0 s na) (subst Q w sz) (old_names t q c b v hv y.0 s nb)))
+    inl (right u v (state u v s hu.1 (x.kind r) x.names (subst Q w sz) y.names))
 edge t q c d p _ _ (checks a b s (ca, ka, na) (cb, kb, nb) (i, j, l, e, g)) u v hu iu hv iv =
-    let x = old_one t q a u iu s na in
-    let y = old_one t q b v iv s nb in
-    let P : ValueRecord → Type 0 = λ y. IsNilCheck y in
-    let H : ValueRecord → Type 0 = λ y. HasValue t.f c y in
-    let G : ℕ → ValueRecord → Type 0 = λ n y. slice_get c.values n ≡ Some y in
-    inl (right u v (checks u v s (hu.1, subst P (sym x.0) ka, old_names t q c a u hu x.0 s na) (hv.1, subst P (sym y.0) kb, old_names t q c b v hv y.0 s nb)
-    (i, j, l, subst (G i) (sym x.0) (place_back t c d p a (subst H x.0 hu) x.1 i e), subst (G j) (sym y.0) (place_back t c d p b (subst H y.0 hv) y.1 j g))))
+    let x = one t q c d p a u hu iu s na in
+    let y = one t q c d p b v hv iv s nb in
+    inl (right u v (checks u v s (hu.1, x.check ka, x.names) (hv.1, y.check kb, y.names) (i, j, l, x.place i e, y.place j g)))
 
 begins : (f : FuncRecord) (d : BlockRecord) (a b : ValueRecord) → BaseBefore f d a b → Contains d.values a
 begins f d _ _ (argument a b (ca, cb, np, j)) = ca

@@ -16,7 +16,7 @@ use Rattle.bk_order_laws.specs.Base.{BaseBefore, BasePrecedes, KeepsAllButOrder}
 use Rattle.bk_order_laws.specs.Base as base
 use Rattle.bk_order_laws.proofs.Turns.{in_turn}
 use Rattle.bk_order_laws.proofs.BaseSuffices.{base_suffices}
-use Rattle.bk_form_laws.specs.Rules.{IsRead, IsPure}
+use Rattle.bk_form_laws.specs.Rules.{IsRead, IsPure, KeepsState, KeepsRoles}
 use Rattle.bk_form_laws.specs.Typed.{KeepsTypes}
 use Rattle.bk_form_laws.specs.Kinds.{Applies, Nearly, HasNoCycle, AllReached}
 use Rattle.bk_form_laws.proofs.Pairs.{turn_shape, turn, in_old, beside, one_partner}
@@ -26,6 +26,7 @@ use Rattle.bk_form_laws.proofs.Applied.{applied_is, step}
 use Rattle.bk_form_laws.proofs.BaseKept.{starts_in}
 use Rattle.bk_form_laws.proofs.Calm.{nearly}
 use Rattle.bk_form_laws.proofs.Rising.{no_cycle}
+use Rattle.bk_form_laws.proofs.StateRoots.{state_kept, state_no_cycle}
 
 in_order : (f : FuncRecord) (b : BlockRecord) (u v : ValueRecord) → BaseBefore f b u v → ComesBefore f b u v
 in_order f b _ _ (base.argument u v h) = argument u v h
@@ -74,17 +75,16 @@ nearly_of s f h = record {
   memory = h.kinds Memory;
 }
 
--- A rule that is read and keeps types, and whose roots have nothing to do with memory, keeps form.
-pub form_kept : (s : Setting) (r : Rule) (f : FuncRecord) (b k : ℕ) (x : BlockRecord) (v : ValueRecord) (bs : List Bound) (cs : List Bool) → Applies s r f b k x v bs cs → IsRead r → KeepsTypes s r → IsPure r →
-    AllReached f → IsFormed s f → IsFormed s (applied (source f bs s.target) r.right b k v) × AllReached (applied (source f bs s.target) r.right b k v)
-form_kept s r f b k x v bs cs h d y z reached form =
+-- the rest of form, where all kinds but Order are kept and no cycle is made in the base of the order
+rest : (s : Setting) (r : Rule) (f : FuncRecord) (b k : ℕ) (x : BlockRecord) (v : ValueRecord) (bs : List Bound) (cs : List Bool) → Applies s r f b k x v bs cs → IsRead r → AllReached f → IsFormed s f →
+    Nearly s (applied (source f bs s.target) r.right b k v) → HasNoCycle (applied (source f bs s.target) r.right b k v) →
+    IsFormed s (applied (source f bs s.target) r.right b k v) × AllReached (applied (source f bs s.target) r.right b k v)
+rest s r f b k x v bs cs h d reached form p n =
     let g : FuncRecord = applied (source f bs s.target) r.right b k v in
     let q : Nearly s f = nearly_of s f form in
-    let p : Nearly s g = nearly s r f b k x v bs cs h d y z q in
     let t : Step = step s r f b k x v bs cs h d q.framed.missing in
     let e : g ≡ after t = applied_is s r f b k x v bs cs h in
     let a : AllReached g = (let P : FuncRecord → Type 0 = λ z. IsNamed z → AllReached z in subst P (sym e) (λ n. reached_after t n reached)) (is_named s g p.framed.missing) in
-    let n : HasNoCycle g = no_cycle s r f b k x v bs cs h d y z q reached (λ c u j p. (form.kinds Order c j.0).value u j.1 (all_in_order f c u u p)) in
     let o : Keeps s g Order = λ c i. record {
       block = tt;
       value = λ w j. base_suffices g c (in_turn s g (but_order s g p) c (a c i)) (λ u p. n c u (i, starts_in g c u u p) p) w;
@@ -92,3 +92,20 @@ form_kept s r f b k x v bs cs h d y z reached form =
     let some : ¬ (g.blocks ≡ []) = (let P : FuncRecord → Type 0 = λ z. ¬ (z.blocks ≡ []) in subst P (sym e) (λ l.
     (let i = to_in (block_after t) (after t).blocks (root_in t).0 in elim (subst (λ z. In (block_after t) z) l i) [ ]))) in
     (record { blocks = some; kinds = all_kinds s g p o }, a)
+
+no_cycle_of : (s : Setting) (f : FuncRecord) → IsFormed s f → HasNoCycle f
+no_cycle_of s f form c u j p = (form.kinds Order c j.0).value u j.1 (all_in_order f c u u p)
+
+-- A rule that is read and keeps types, and whose roots have nothing to do with memory, keeps form.
+pub form_kept : (s : Setting) (r : Rule) (f : FuncRecord) (b k : ℕ) (x : BlockRecord) (v : ValueRecord) (bs : List Bound) (cs : List Bool) → Applies s r f b k x v bs cs → IsRead r → KeepsTypes s r → IsPure r →
+    AllReached f → IsFormed s f → IsFormed s (applied (source f bs s.target) r.right b k v) × AllReached (applied (source f bs s.target) r.right b k v)
+form_kept s r f b k x v bs cs h d y z reached form =
+    let q : Nearly s f = nearly_of s f form in
+    rest s r f b k x v bs cs h d reached form (nearly s r f b k x v bs cs h d y z q) (no_cycle s r f b k x v bs cs h d y z q reached (no_cycle_of s f form))
+
+-- So does one whose roots take one state, and load or check alike.
+pub state_form_kept : (s : Setting) (r : Rule) (f : FuncRecord) (b k : ℕ) (x : BlockRecord) (v : ValueRecord) (bs : List Bound) (cs : List Bool) → Applies s r f b k x v bs cs → IsRead r → KeepsTypes s r → KeepsState r → KeepsRoles r →
+    AllReached f → IsFormed s f → IsFormed s (applied (source f bs s.target) r.right b k v) × AllReached (applied (source f bs s.target) r.right b k v)
+state_form_kept s r f b k x v bs cs h d y z l reached form =
+    let q : Nearly s f = nearly_of s f form in
+    rest s r f b k x v bs cs h d reached form (state_kept s r f b k x v bs cs h d y z q) (state_no_cycle s r f b k x v bs cs h d y z l q reached (no_cycle_of s f form))

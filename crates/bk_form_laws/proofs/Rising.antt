@@ -2,6 +2,8 @@
 use Rattle.std.proofs.Common.{◌≡◌, ℕ, suc, ◌+◌, ◌<◌, sym, subst, arith, ◌⊎◌, inl, inr, List, [], ◌∷◌, ◌++◌, length, length-append, Bool}
 use Rattle.std.specs.Prelude.{slice_get}
 use Rattle.bk_func.specs.Records.{ValueRecord, BlockRecord, FuncRecord}
+use Rattle.bk_func.specs.Form.States.{Names}
+use Rattle.bk_func.specs.Form.Before.{IsLoad, IsNilCheck}
 use Rattle.bk_func.specs.Form.Signatures.{Setting}
 use Rattle.bk_func.proofs.Faults.{In}
 use Rattle.bk_rule.specs.declared.trees.Bound.{Bound}
@@ -17,9 +19,10 @@ use Rattle.bk_form_laws.specs.Typed.{KeepsTypes}
 use Rattle.bk_form_laws.specs.Kinds.{Applies, Nearly, HasNoCycle, AllReached}
 use Rattle.bk_mean.proofs.Named.{in_either}
 use Rattle.bk_form_laws.proofs.Matched.{Under, under_number, named_below}
-use Rattle.bk_form_laws.proofs.Steps.{Step, here, there}
-use Rattle.bk_form_laws.proofs.Applied.{applied_is, nodes, step}
+use Rattle.bk_form_laws.proofs.Steps.{Step, after, here, there}
+use Rattle.bk_form_laws.proofs.Applied.{made_by, root_by, applied_is, nodes, step}
 use Rattle.bk_form_laws.proofs.BaseKept.{IsPlaced, base_kept}
+use Rattle.bk_form_laws.proofs.MemoryKept.{IsCalm}
 use Rattle.bk_form_laws.proofs.Calm.{calmed}
 
 -- a number under the root, or below a bound
@@ -69,17 +72,18 @@ old_inner : (r : Build) (c : Source) (l : Pattern) (id : ℕ) → ((i : ℕ) →
 old_inner (build.Var i) c l id k h first w j m i2 = elim j [ ]
 old_inner (build.Node' o ty int a shape args) c l id k (h, hs) first w j m i = (old_row args c l id k hs first).0 w j m i
 
--- A rule that is read and keeps types, and whose roots have nothing to do with memory, makes no cycle in the base of the order.
-pub no_cycle : (s : Setting) (r : Rule) (f : FuncRecord) (b k : ℕ) (x : BlockRecord) (v : ValueRecord) (bs : List Bound) (cs : List Bool) → Applies s r f b k x v bs cs → IsRead r → KeepsTypes s r → IsPure r →
-    Nearly s f → AllReached f → HasNoCycle f → HasNoCycle (applied (source f bs s.target) r.right b k v)
-no_cycle s r f b k x v bs cs h d y z q reached n =
+-- what is known of a visit by a rule that is read
+pub placed : (s : Setting) (r : Rule) (f : FuncRecord) (b k : ℕ) (x : BlockRecord) (v : ValueRecord) (bs : List Bound) (cs : List Bool) (h : Applies s r f b k x v bs cs) (d : IsRead r) (q : Nearly s f) → AllReached f →
+    IsCalm (step s r f b k x v bs cs h d q.framed.missing) →
+    ((w : ValueRecord) → In w (made_by s r f bs) → (n : ℕ) → ¬ Names (after (step s r f b k x v bs cs h d q.framed.missing)) w n) →
+    ((n : ℕ) → Names (after (step s r f b k x v bs cs h d q.framed.missing)) (root_by s r f bs v) n → (IsLoad (root_by s r f bs v) → IsLoad v) × (IsNilCheck (root_by s r f bs v) → IsNilCheck v)) →
+    IsPlaced (step s r f b k x v bs cs h d q.framed.missing)
+placed s r f b k x v bs cs h d q reached calm silent role =
     let t : Step = step s r f b k x v bs cs h d q.framed.missing in
     let c : Source = source f bs s.target in
-    let a = calmed s r f b k x v bs cs h d y z q in
-    let e = applied_is s r f b k x v bs cs h in
     let old = old_inner r.right c r.left v.id (λ i l. named_below r.left f bs i v.id cs d.left h.matches.stands l) d.right (next_number f) in
-    let placed : IsPlaced t = record {
-      calm = a.calm;
+    record {
+      calm = calm;
       uses = q.framed.uses;
       memory = q.memory;
       reached = reached x (here t).0;
@@ -88,7 +92,16 @@ no_cycle s r f b k x v bs cs h d y z q reached n =
         | inl m ↦ (let o = there f u.id (under_number s f q.framed.missing v.id u.id m) in absurd (t.visit.fresh u j o.0 o.1 o.2 o.3))
         | inr m ↦ m
       ];
-      silent = a.silent;
-      silent_made = a.silent_made;
-    } in
-    (let P : FuncRecord → Type 0 = λ g. HasNoCycle g in subst P (sym e) (base_kept t placed n))
+      role = role;
+      silent_made = silent;
+    }
+
+-- A rule that is read and keeps types, and whose roots have nothing to do with memory, makes no cycle in the base of the order.
+pub no_cycle : (s : Setting) (r : Rule) (f : FuncRecord) (b k : ℕ) (x : BlockRecord) (v : ValueRecord) (bs : List Bound) (cs : List Bool) → Applies s r f b k x v bs cs → IsRead r → KeepsTypes s r → IsPure r →
+    Nearly s f → AllReached f → HasNoCycle f → HasNoCycle (applied (source f bs s.target) r.right b k v)
+no_cycle s r f b k x v bs cs h d y z q reached n =
+    let t : Step = step s r f b k x v bs cs h d q.framed.missing in
+    let a = calmed s r f b k x v bs cs h d y z q in
+    let e = applied_is s r f b k x v bs cs h in
+    let p : IsPlaced t = placed s r f b k x v bs cs h d q reached a.calm a.silent_made (λ m j. absurd (a.silent m j)) in
+    (let P : FuncRecord → Type 0 = λ g. HasNoCycle g in subst P (sym e) (base_kept t p n))

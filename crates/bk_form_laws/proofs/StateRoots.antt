@@ -1,11 +1,11 @@
--- A rule whose roots take memory, both the same state, keeps all the kinds but Order.
-use Rattle.std.proofs.Common.{◌≡◌, ℕ, suc, ◌+◌, refl, ap, sym, subst, ◌∙◌, arith, inl, inr, List, [], ◌∷◌, length, Some, Bool, true, false, drop}
+-- A rule whose roots take memory, both the same state, keeps all the kinds but Order, and makes no cycle in the base of the order.
+use Rattle.std.proofs.Common.{◌⊎◌, ◌≡◌, ℕ, suc, ◌+◌, refl, ap, sym, subst, ◌∙◌, arith, inl, inr, List, [], ◌∷◌, length, Some, Bool, true, false, drop}
 use Rattle.std.specs.Prelude.{slice_get, if◌then◌else◌}
 use Rattle.bk_ops.specs.Table.{info_of}
 use Rattle.bk_ops.specs.declared.table.Op.{Op}
 use Rattle.bk_ops.specs.declared.types.Ty.{Ty as Types}
 use Rattle.bk_func.specs.Records.{ValueRecord, BlockRecord, FuncRecord}
-use Rattle.bk_func.specs.Numbers.{value_of}
+use Rattle.bk_func.specs.Numbers.{value_of, origin_of}
 use Rattle.bk_func.specs.declared.form.FormKind.TheVariants.{Missing, Memory}
 use Rattle.bk_func.specs.Form.{Keeps}
 use Rattle.bk_func.specs.Form.States.{CopiesMemory, StandsFor, NamesAt, Names}
@@ -20,10 +20,17 @@ use Rattle.bk_rule.specs.declared.trees.Rule.{Rule}
 use Rattle.bk_rule.specs.Bindings.{value_in}
 use Rattle.bk_rule.specs.Match.{Matches, MatchesEach, swapped, first_is, order_of, orders}
 use Rattle.bk_rewrite.specs.Making.{Source, source, values_made, name_made, row_names, root_made, applied, next_number}
+use Rattle.bk_ops.specs.declared.family.Family.{Family}
+use Rattle.bk_ops.specs.declared.family.Family.TheVariants as op
+use Rattle.bk_ops.specs.declared.family.ArmOp.TheVariants as arm
+use Rattle.bk_ops.specs.declared.family.RvOp.TheVariants as rv
+use Rattle.bk_func.specs.Effects.{is_load, is_check}
+use Rattle.bk_form_laws.proofs.Rising.{placed}
+use Rattle.bk_form_laws.proofs.BaseKept.{IsPlaced, base_kept}
 use Rattle.bk_form_laws.specs.Fits.{is_special, SameNames}
-use Rattle.bk_form_laws.specs.Rules.{IsRead, EndsWith, RowEnds, MadeEndsWith, MadeEnds, TakesState, MakesState, KeepsState}
+use Rattle.bk_form_laws.specs.Rules.{IsRead, EndsWith, RowEnds, MadeEndsWith, MadeEnds, TakesState, MakesState, KeepsState, KeepsRole, KeepsRoles, AtMade}
 use Rattle.bk_form_laws.specs.Typed.{KeepsTypes}
-use Rattle.bk_form_laws.specs.Kinds.{Applies, Nearly}
+use Rattle.bk_form_laws.specs.Kinds.{Applies, Nearly, HasNoCycle, AllReached}
 use Rattle.bk_mean.proofs.Named.{is_named, found_value}
 use Rattle.bk_form_laws.proofs.EasyKinds.{missing_kept}
 use Rattle.bk_form_laws.proofs.Steps.{Step, after, here, stands_over, stands_back, argument_there, no_result}
@@ -31,7 +38,7 @@ use Rattle.bk_form_laws.proofs.Applied.{framed, made_by, root_by, as_visit, appl
 use Rattle.bk_form_laws.proofs.TypedLeft.{Ground, shows_in}
 use Rattle.bk_form_laws.proofs.MemoryKept.{IsCalm, memory_kept}
 use Rattle.bk_form_laws.proofs.Whole.{facts, typed, names_none}
-use Rattle.bk_form_laws.proofs.Calm.{dry_inner}
+use Rattle.bk_form_laws.proofs.Calm.{dry_inner, old_root}
 
 -- a number is the last of a list
 record IsLast (ns : List ℕ) (n : ℕ) : Type 0 where
@@ -122,15 +129,18 @@ state_names t n p c q d (om, ol) (nm, nl) m = record {
   );
 }
 
--- A rule that is read and keeps types, and whose roots take the same state, keeps all the kinds but Order.
-pub state_kept : (s : Setting) (r : Rule) (f : FuncRecord) (b k : ℕ) (x : BlockRecord) (v : ValueRecord) (bs : List Bound) (cs : List Bool) → Applies s r f b k x v bs cs → IsRead r → KeepsTypes s r → KeepsState r →
-    Nearly s f → Nearly s (applied (source f bs s.target) r.right b k v)
-state_kept s r f b k x v bs cs h d y z q =
+-- what a visit by such a rule is
+pub record StateCalmed (t : Step) : Type 0 where
+  pub calm : IsCalm t
+  pub silent_made : (w : ValueRecord) → In w t.made → (n : ℕ) → ¬ Names (after t) w n
+
+pub state_calmed : (s : Setting) (r : Rule) (f : FuncRecord) (b k : ℕ) (x : BlockRecord) (v : ValueRecord) (bs : List Bound) (cs : List Bool) (h : Applies s r f b k x v bs cs) (d : IsRead r) → KeepsTypes s r → KeepsState r →
+    (q : Nearly s f) → StateCalmed (step s r f b k x v bs cs h d q.framed.missing)
+state_calmed s r f b k x v bs cs h d y z q =
     let g : Ground s f = record { missing = q.framed.missing; types = q.typed.types } in
     let t : Step = step s r f b k x v bs cs h d g.missing in
     let c : Source = source f bs s.target in
     let a = facts s r f b k x v bs cs h d g y in
-    let e = applied_is s r f b k x v bs cs h in
     let old : ¬ CopiesMemory v = λ i. a.old_plain.copy i.0 in
     let ol = old_last r.left f bs z.variable v.id cs v z.left h.matches.stands (found_value f (is_named s f g.missing) x v v.id (here t) refl) in
     let nl = new_last r.right c z.variable v.id v.ty (next_number f) z.right in
@@ -152,7 +162,60 @@ state_kept s r f b k x v bs cs h d y z q =
       made_type = λ w i. (dry w i).1;
       made_memory = λ w i. (dry w i).0;
     } in record {
+      calm = calm;
+      silent_made = silent;
+    }
+
+-- A rule that is read and keeps types, and whose roots take the same state, keeps all the kinds but Order.
+pub state_kept : (s : Setting) (r : Rule) (f : FuncRecord) (b k : ℕ) (x : BlockRecord) (v : ValueRecord) (bs : List Bound) (cs : List Bool) → Applies s r f b k x v bs cs → IsRead r → KeepsTypes s r → KeepsState r →
+    Nearly s f → Nearly s (applied (source f bs s.target) r.right b k v)
+state_kept s r f b k x v bs cs h d y z q =
+    let g : Ground s f = record { missing = q.framed.missing; types = q.typed.types } in
+    let t : Step = step s r f b k x v bs cs h d g.missing in
+    let e = applied_is s r f b k x v bs cs h in
+    let calm = (state_calmed s r f b k x v bs cs h d y z q).calm in record {
       framed = framed s r f b k x v bs cs h d q.framed;
-      typed = typed s r f b k x v bs cs h d g y (let P : FuncRecord → Type 0 = λ g. SameNames f g v (root_by s r f bs v) (made_by s r f bs) in subst P (sym e) names) q.typed;
+      typed = typed s r f b k x v bs cs h d g y (let P : FuncRecord → Type 0 = λ g. SameNames f g v (root_by s r f bs v) (made_by s r f bs) in subst P (sym e) calm.names) q.typed;
       memory = (let P : FuncRecord → Type 0 = λ g. Keeps s g Memory in subst P (sym e) (memory_kept t calm q.memory));
     }
+
+-- ---- order
+load_to : (o : Family) → is_load (origin_of o) ≡ true → (o ≡ op.Load) ⊎ (o ≡ op.Arm arm.Load) ⊎ (o ≡ op.Rv rv.Load)
+load_to op.Load e = inl refl
+load_to (op.Arm arm.Load) e = inr (inl refl)
+load_to (op.Rv rv.Load) e = inr (inr refl)
+load_to _ e = absurd cc
+
+load_from : (o : Family) → (o ≡ op.Load) ⊎ (o ≡ op.Arm arm.Load) ⊎ (o ≡ op.Rv rv.Load) → is_load (origin_of o) ≡ true
+load_from o (inl e) = rw e refl
+load_from o (inr (inl e)) = rw e refl
+load_from o (inr (inr e)) = rw e refl
+
+check_to : (o : Family) → is_check (origin_of o) ≡ true → (o ≡ op.NilCheck) ⊎ (o ≡ op.Arm arm.Nil) ⊎ (o ≡ op.Rv rv.Nil)
+check_to op.NilCheck e = inl refl
+check_to (op.Arm arm.Nil) e = inr (inl refl)
+check_to (op.Rv rv.Nil) e = inr (inr refl)
+check_to _ e = absurd cc
+
+check_from : (o : Family) → (o ≡ op.NilCheck) ⊎ (o ≡ op.Arm arm.Nil) ⊎ (o ≡ op.Rv rv.Nil) → is_check (origin_of o) ≡ true
+check_from o (inl e) = rw e refl
+check_from o (inr (inl e)) = rw e refl
+check_from o (inr (inr e)) = rw e refl
+
+new_role : (r : Build) (c : Source) (i id : ℕ) (ty : Types) (first : ℕ) (o : Family) → MakesState i r → AtMade r (λ q. KeepsRole o q.family) → KeepsRole o (root_made c id ty r first).op.family
+new_role (build.Var j) c i id ty first o m h = elim m [ ]
+new_role (build.Node' q u int a shape args) c i id ty first o m h = h
+
+-- Such a rule whose roots load or check alike makes no cycle in the base of the order.
+pub state_no_cycle : (s : Setting) (r : Rule) (f : FuncRecord) (b k : ℕ) (x : BlockRecord) (v : ValueRecord) (bs : List Bound) (cs : List Bool) → Applies s r f b k x v bs cs → IsRead r → KeepsTypes s r → KeepsState r → KeepsRoles r →
+    Nearly s f → AllReached f → HasNoCycle f → HasNoCycle (applied (source f bs s.target) r.right b k v)
+state_no_cycle s r f b k x v bs cs h d y z l q reached n =
+    let t : Step = step s r f b k x v bs cs h d q.framed.missing in
+    let c : Source = source f bs s.target in
+    let a = state_calmed s r f b k x v bs cs h d y z q in
+    let e = applied_is s r f b k x v bs cs h in
+    let role : KeepsRole v.op.family (root_by s r f bs v).op.family = new_role r.right c z.variable v.id v.ty (next_number f) v.op.family z.right
+    (old_root r.left f bs v.id cs v (λ o. AtMade r.right (λ q. KeepsRole o.family q.family)) l h.matches.stands (found_value f (is_named s f q.framed.missing) x v v.id (here t) refl)) in
+    let p : IsPlaced t = placed s r f b k x v bs cs h d q reached a.calm a.silent_made
+    (λ m j. (λ i. load_to v.op.family (role.0 (load_from (root_by s r f bs v).op.family i)), λ i. check_to v.op.family (role.1 (check_from (root_by s r f bs v).op.family i)))) in
+    (let P : FuncRecord → Type 0 = λ g. HasNoCycle g in subst P (sym e) (base_kept t p n))

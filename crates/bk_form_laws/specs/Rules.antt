@@ -6,6 +6,8 @@ use Rattle.bk_ops.specs.declared.table.AuxKind.{AuxKind}
 use Rattle.bk_ops.specs.declared.table.AuxKind.TheVariants as kind
 use Rattle.bk_ops.specs.declared.family.Family.{Family}
 use Rattle.bk_ops.specs.declared.family.Family.TheVariants as op
+use Rattle.bk_func.specs.Numbers.{origin_of}
+use Rattle.bk_func.specs.Effects.{is_load, is_check}
 use Rattle.bk_func.specs.Form.Parts.{IsSigned, IsBetween, Symbol, nothing, variable, symbol_of}
 use Rattle.bk_rule.specs.declared.trees.Expr.{Expr, Row_of-Expr, end_of-Expr, more_of-Expr}
 use Rattle.bk_rule.specs.declared.trees.IntPart.TheVariants as part
@@ -173,3 +175,11 @@ pub record KeepsState (r : Rule) : Type 0 where
   pub variable : ℕ
   pub left : TakesState variable r.left
   pub right : MakesState variable r.right
+
+-- a value of the one family loads where one of the other does, and checks where one of it does
+abbrev pub KeepsRole : Family → Family → Type 0
+KeepsRole o q = (is_load (origin_of q) ≡ true → is_load (origin_of o) ≡ true) × (is_check (origin_of q) ≡ true → is_check (origin_of o) ≡ true)
+
+-- a right root that loads stands for a left root that loads, and one that checks for one that checks
+abbrev pub KeepsRoles : Rule → Type 0
+KeepsRoles r = AtRoot r.left (λ o. AtMade r.right (λ q. KeepsRole o.family q.family))

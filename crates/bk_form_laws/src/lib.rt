@@ -8,7 +8,7 @@ ghost use Rattle.bk_func.specs.Form.Signatures.{Setting};
 ghost use Rattle.bk_rule.specs.declared.trees.Bound.{Bound};
 ghost use Rattle.bk_rule.specs.declared.trees.Rule.{Rule};
 ghost use Rattle.bk_rewrite.specs.Making.{source, applied};
-ghost use Rattle.bk_form_laws.specs.Rules.{IsRead, IsPure, KeepsState};
+ghost use Rattle.bk_form_laws.specs.Rules.{IsRead, IsPure, KeepsState, KeepsRoles};
 ghost use Rattle.bk_form_laws.specs.Typed.{KeepsTypes};
 ghost use Rattle.bk_form_laws.specs.Kinds.{Applies, Framed, Nearly, HasNoCycle, AllReached};
 
@@ -40,5 +40,12 @@ pub fn rules_make_no_cycle()
 pub fn rules_keep_form()
     ensures { (s : Setting) (r : Rule) (f : FuncRecord) (b k : ℕ) (x : BlockRecord) (v : ValueRecord) (bs : List Bound) (cs : List Bool) → Applies s r f b k x v bs cs →
         IsRead r → KeepsTypes s r → IsPure r → AllReached f → IsFormed s f →
+        IsFormed s (applied (source f bs s.target) r.right b k v) × AllReached (applied (source f bs s.target) r.right b k v) }
+{}
+
+/// A law: so does a rule that keeps types, whose roots both take one state of memory, and load or check alike.
+pub fn state_rules_keep_form()
+    ensures { (s : Setting) (r : Rule) (f : FuncRecord) (b k : ℕ) (x : BlockRecord) (v : ValueRecord) (bs : List Bound) (cs : List Bool) → Applies s r f b k x v bs cs →
+        IsRead r → KeepsTypes s r → KeepsState r → KeepsRoles r → AllReached f → IsFormed s f →
         IsFormed s (applied (source f bs s.target) r.right b k v) × AllReached (applied (source f bs s.target) r.right b k v) }
 {}
