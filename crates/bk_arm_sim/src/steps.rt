@@ -14,7 +14,7 @@ use crate::memory::{load_register, store_register};
 use crate::operands::{operand, reg, test_flags};
 use crate::registers::{put, set};
 use crate::status::{condition, pack, passes, unpack};
-use bk_arm_isa::Inst;
+use bk_arm_isa::{Condition, Inst};
 use bk_machine::Stop;
 use bk_num::{HALT, TEXT_BASE, hmul};
 
@@ -203,7 +203,8 @@ fn act(machine: &mut Machine, inst: Inst) -> Option<Stop>
     ensures state { (result, view machine.new) ≡ act inst (view machine.old) }
     ensures sig { machine.new.sig ≡ machine.old.sig }
 {
-    if passes(condition(inst), unpack(machine.flags)) {
+    let condition = condition(inst);
+    if condition == Condition::Al || passes(condition, unpack(machine.flags)) {
         execute(machine, inst)
     } else {
         machine.pc += 4;

@@ -14,7 +14,7 @@ use Rattle.bk_rv_isa.specs.declared.inst.Inst.TheVariants as i
 use Rattle.bk_rv_isa.specs.Machine.{Machine, reg, plus, load, jumped, with_reg, register_result, immediate_result, shift_result, flag, extended, on_load}
 use Rattle.bk_rv_emit.specs.Units.{shift, sign_shift, rotation, choice}
 use Rattle.bk_rv_emit.specs.Numbers.{upper, lower}
-use Rattle.bk_rv_emit_laws.specs.Does.{Does, const_insts}
+use Rattle.bk_rv_emit_laws.specs.Does.{Does, ConstDoes, IsPooled}
 use Rattle.bk_rv_emit_laws.proofs.Paths as P
 use Rattle.bk_rv_emit_laws.proofs.Words as W
 use Rattle.bk_rv_emit_laws.proofs.Constants.{made, address}
@@ -210,11 +210,11 @@ of_address m d g lt w t low f h =
     let p2 = P.imm d m m1 Addi d d u g (lower (pos g)) p1 h.1.0 (P.last d m m d u p0 t.some t.low) (address g lt) (P.result d t) in
     P.ends (i.Lui d (upper (pos g)) ∷ i.OpImm Addi d d (lower (pos g)) ∷ []) d m (with_reg m1 d g) g p2 (omega arith) (P.last d m m1 d g p1 t.some t.low)
 
-of_const_by : (short long : Bool) (m : Machine) (d g : ℕ) (c : ℤ) → fits_signed 32 c ≡ long → g < 2 ^ 30 → load m 8 g ≡ Some (residue 64 c) →
+of_const_by : (short long : Bool) (m : Machine) (d g : ℕ) (c : ℤ) → fits_signed 32 c ≡ long → (fits_signed 32 c ≡ false → IsPooled m g (residue 64 c)) →
     Does (cond short (i.OpImm Addi d 0 c ∷ []) (cond long (i.Lui d (upper c) ∷ i.Addiw d d (lower c) ∷ []) (i.Lui d (upper (pos g)) ∷ i.Load Ld d d (lower (pos g)) ∷ []))) m d (residue 64 c)
-of_const_by true long m d g c e lt l = of_const_short m d c
-of_const_by false true m d g c e lt l = of_const_long m d c e
-of_const_by false false m d g c e lt l = of_pool m d g (residue 64 c) lt (residue_below 64 c) l
+of_const_by true long m d g c e l = of_const_short m d c
+of_const_by false true m d g c e l = of_const_long m d c e
+of_const_by false false m d g c e l = let p = l e in of_pool m d g (residue 64 c) p.low (residue_below 64 c) p.there
 
-pub of_const : (d g : ℕ) (c : ℤ) (m : Machine) → g < 2 ^ 30 → load m 8 g ≡ Some (residue 64 c) → Does (const_insts d c g) m d (residue 64 c)
-of_const d g c m lt l = of_const_by (fits_signed 12 c) (fits_signed 32 c) m d g c refl lt l
+pub of_const : ConstDoes
+of_const d g c m l = of_const_by (fits_signed 12 c) (fits_signed 32 c) m d g c refl l

@@ -1,5 +1,5 @@
 -- The law of a unit: its instructions leave the value of its op.
-use Rattle.std.specs.Prelude.{◌≡◌, ◌≢◌, ◌<◌, ℕ, ◌^◌, ℤ, pos, true, List, [], ◌∷◌, map, Some, if◌then◌else◌}
+use Rattle.std.specs.Prelude.{◌≡◌, ◌≢◌, ◌<◌, ℕ, ◌^◌, ℤ, pos, true, false, List, [], ◌∷◌, map, Some, if◌then◌else◌}
 use Rattle.bk_num.specs.Word.{residue, fits_signed}
 use Rattle.bk_ops.specs.declared.types.Target.TheVariants.{Riscv64}
 use Rattle.bk_ops.specs.declared.family.RvOp.{RvOp}
@@ -53,10 +53,15 @@ UnitDoes o =
     valued (rv_formula o 64 c Riscv64) (map (reg m.regs) args) ≡ Some v →
     Does (machine_unit o w (regs_of args (Some d)) c) m d v
 
--- the unit of a constant; from the pool, where its eight bytes stand at g
+-- the eight bytes at an address that two immediates reach are those of a number
+pub record IsPooled (m : Machine) (g v : ℕ) : Type 0 where
+  pub low : g < 2 ^ 30
+  pub there : load m 8 g ≡ Some v
+
+-- the unit of a constant; g is its address in the pool where it has more than 32 bits
 abbrev pub ConstDoes : Type 0
 ConstDoes =
-    (d g : ℕ) (c : ℤ) (m : Machine) → g < 2 ^ 30 → load m 8 g ≡ Some (residue 64 c) → Does (const_insts d c g) m d (residue 64 c)
+    (d g : ℕ) (c : ℤ) (m : Machine) → (fits_signed 32 c ≡ false → IsPooled m g (residue 64 c)) → Does (const_insts d c g) m d (residue 64 c)
 
 -- the unit of an address
 abbrev pub AddrDoes : Type 0
