@@ -26,7 +26,8 @@ use Rattle.bk_form_laws.specs.Visits.{visited, Visit, IsNew}
 use Rattle.bk_form_laws.specs.Fits.{is_special, NewNames}
 use Rattle.bk_form_laws.specs.Rules.{IsRead}
 use Rattle.bk_form_laws.specs.Kinds.{Applies, Framed}
-use Rattle.bk_mean.proofs.Named.{to_in, in_got}
+use Rattle.bk_places.proofs.Elements.{to_in}
+use Rattle.bk_mean.proofs.Named.{in_got}
 use Rattle.bk_mean.proofs.Dominance.{defined_here}
 use Rattle.bk_form_laws.proofs.Lists.{none_counted}
 use Rattle.bk_form_laws.proofs.Matched.{under_number, under_defined, named_below, symbol_named}

@@ -18,7 +18,8 @@ use Rattle.bk_func.proofs.Faults.{In}
 use Rattle.bk_order_laws.specs.Base.{BaseBefore, argument, state, checks, BasePrecedes, right, onward}
 use Rattle.bk_order_laws.proofs.First.{base_onward}
 use Rattle.bk_form_laws.specs.Fits.{is_special}
-use Rattle.bk_mean.proofs.Named.{IsNamed, to_in, to_contains, got_in, in_got}
+use Rattle.bk_places.proofs.Elements.{to_in, to_contains}
+use Rattle.bk_mean.proofs.Named.{IsNamed, got_in, in_got}
 use Rattle.bk_mean.proofs.Dominance.{Home, home, one_dominates, defined_from, defined_here, arguments_defined}
 use Rattle.bk_form_laws.proofs.Lists.{set_here, set_other, front}
 use Rattle.bk_form_laws.proofs.Pairs.{in_new, one_partner}

@@ -24,7 +24,8 @@ use Rattle.bk_form_laws.specs.Fits.{is_special, SameNames}
 use Rattle.bk_form_laws.specs.Rules.{AtRoot, AtMade, IsPure, IsRead}
 use Rattle.bk_form_laws.specs.Kinds.{Applies, Nearly}
 use Rattle.bk_form_laws.specs.Typed.{Seen, type_of, IsRight, AreRight, IsRoot, KeepsTypes}
-use Rattle.bk_mean.proofs.Named.{is_named, in_either, found_value}
+use Rattle.bk_places.proofs.Elements.{in_either}
+use Rattle.bk_mean.proofs.Named.{is_named, found_value}
 use Rattle.bk_form_laws.proofs.EasyKinds.{missing_kept}
 use Rattle.bk_form_laws.proofs.Steps.{Step, after, here, no_result}
 use Rattle.bk_form_laws.proofs.Applied.{framed, made_by, root_by, as_visit, applied_is, nodes, new_names, step}

@@ -18,7 +18,8 @@ use Rattle.bk_func.proofs.Faults.{In}
 use Rattle.bk_refine_laws.specs.Visits.{edited}
 use Rattle.bk_form_laws.specs.Visits.{visited, Visit, IsNew}
 use Rattle.bk_form_laws.specs.Fits.{NamesOne, NewNames}
-use Rattle.bk_mean.proofs.Named.{is_named, to_in, to_contains}
+use Rattle.bk_places.proofs.Elements.{to_in, to_contains}
+use Rattle.bk_mean.proofs.Named.{is_named}
 use Rattle.bk_form_laws.proofs.Lists.{sum_set, sum_zero, set_front, none_counted}
 use Rattle.bk_form_laws.proofs.Pairs.{Shape, Pair, Turned, partner, in_old, shape, entry_back}
 use Rattle.bk_form_laws.proofs.Turning.{turned, back, each_value, old_here}

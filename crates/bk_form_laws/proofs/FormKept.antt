@@ -11,7 +11,8 @@ use Rattle.bk_func.proofs.Faults.{In}
 use Rattle.bk_rule.specs.declared.trees.Bound.{Bound}
 use Rattle.bk_rule.specs.declared.trees.Rule.{Rule}
 use Rattle.bk_rewrite.specs.Making.{source, applied}
-use Rattle.bk_mean.proofs.Named.{IsNamed, is_named, to_in}
+use Rattle.bk_places.proofs.Elements.{to_in}
+use Rattle.bk_mean.proofs.Named.{IsNamed, is_named}
 use Rattle.bk_order_laws.specs.Base.{BaseBefore, BasePrecedes, KeepsAllButOrder}
 use Rattle.bk_order_laws.specs.Base as base
 use Rattle.bk_order_laws.proofs.Turns.{in_turn}

@@ -23,7 +23,8 @@ use Rattle.bk_rewrite.specs.Making.{aux_in, aux_made}
 use Rattle.bk_form_laws.specs.Fits.{is_special}
 use Rattle.bk_refine_laws.specs.Trees.{Names, NamesAmong, NamesBelow}
 use Rattle.bk_form_laws.specs.Rules.{IsPlainOp, NamesSymbol, NamesSymbolAmong, IsPlain, ArePlain}
-use Rattle.bk_mean.proofs.Named.{is_named, to_contains, value_found}
+use Rattle.bk_places.proofs.Elements.{to_contains}
+use Rattle.bk_mean.proofs.Named.{is_named, value_found}
 use Rattle.bk_mean.proofs.Dominance.{arguments_defined}
 
 -- the number m is an argument of the value n, or of one below it; no phi is on the way

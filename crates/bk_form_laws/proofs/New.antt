@@ -30,7 +30,7 @@ use Rattle.bk_form_laws.specs.Fits.{is_special}
 use Rattle.bk_form_laws.specs.Kinds.{Typed}
 use Rattle.bk_refine_laws.specs.Trees.{NamesBelow}
 use Rattle.bk_form_laws.specs.Rules.{NamesSymbol, NamesInt, FitsInt, FitsName, IsMade, made_count, IsBuilt, AreBuilt}
-use Rattle.bk_mean.proofs.Named.{in_left, in_right, in_either}
+use Rattle.bk_places.proofs.Elements.{in_left, in_right, in_either}
 use Rattle.bk_form_laws.proofs.Matched.{Under}
 use Rattle.bk_form_laws.proofs.Ranges.{zero_signed, const_kept, bool_kept, written_kept, written_fits}
 

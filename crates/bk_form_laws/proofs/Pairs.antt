@@ -6,7 +6,8 @@ use Rattle.bk_func.specs.Records.{BlockRecord, FuncRecord}
 use Rattle.bk_func.specs.Form.Text.{HasBlock, Defines, IsEntry}
 use Rattle.bk_func.specs.Form.Walks.{Walk, begin, onward, IsReached, Passes, IsDefinedAt}
 use Rattle.bk_func.proofs.Faults.{In}
-use Rattle.bk_mean.proofs.Named.{IsNamed, to_in, to_contains, got_in, in_got}
+use Rattle.bk_places.proofs.Elements.{to_in, to_contains}
+use Rattle.bk_mean.proofs.Named.{IsNamed, got_in, in_got}
 
 -- what a visit keeps of a block
 pub record Shape (c d : BlockRecord) : Type 0 where

@@ -17,7 +17,7 @@ use Rattle.bk_refine_laws.specs.Trees.{NamesBelow}
 use Rattle.bk_form_laws.specs.Rules.{IsBuilt, AreBuilt, IsRead, IsPure}
 use Rattle.bk_form_laws.specs.Typed.{KeepsTypes}
 use Rattle.bk_form_laws.specs.Kinds.{Applies, Nearly, HasNoCycle, AllReached}
-use Rattle.bk_mean.proofs.Named.{in_either}
+use Rattle.bk_places.proofs.Elements.{in_either}
 use Rattle.bk_form_laws.proofs.Matched.{Under, under_number, named_below}
 use Rattle.bk_form_laws.proofs.Steps.{Step, after, here, there}
 use Rattle.bk_form_laws.proofs.Applied.{made_by, root_by, applied_is, nodes, step}

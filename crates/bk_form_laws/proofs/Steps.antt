@@ -19,7 +19,8 @@ use Rattle.bk_func.proofs.Faults.{In}
 use Rattle.bk_refine_laws.specs.Visits.{edited}
 use Rattle.bk_form_laws.specs.Visits.{visited, Visit, IsNew}
 use Rattle.bk_form_laws.specs.Fits.{IsThere, is_special, SameNames}
-use Rattle.bk_mean.proofs.Named.{IsNamed, is_named, to_contains, got_in, borne}
+use Rattle.bk_places.proofs.Elements.{to_contains}
+use Rattle.bk_mean.proofs.Named.{IsNamed, is_named, got_in, borne}
 use Rattle.bk_form_laws.proofs.Pairs.{Pair, Turned, partner}
 use Rattle.bk_form_laws.proofs.Turning.{turned, over, each_value, old_in, new_in, old_here, block_here}
 

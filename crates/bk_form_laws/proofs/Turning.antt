@@ -12,7 +12,8 @@ use Rattle.bk_func.specs.Form.Parts.{IsBlockNumber}
 use Rattle.bk_func.proofs.Faults.{In}
 use Rattle.bk_refine_laws.specs.Visits.{edited}
 use Rattle.bk_form_laws.specs.Visits.{visited, Visit, IsNew}
-use Rattle.bk_mean.proofs.Named.{IsNamed, is_named, to_in, to_contains, got_in, in_got, in_left, in_right, in_either}
+use Rattle.bk_places.proofs.Elements.{to_in, to_contains, in_left, in_right, in_either}
+use Rattle.bk_mean.proofs.Named.{IsNamed, is_named, got_in, in_got}
 use Rattle.bk_form_laws.proofs.Lists.{set_here, set_other, set_front, set_member, member_apart, one_place}
 use Rattle.bk_form_laws.proofs.Pairs.{Pair, Over, Turned, in_new}
 

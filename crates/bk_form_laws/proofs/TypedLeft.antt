@@ -32,7 +32,8 @@ use Rattle.bk_rule.specs.Match.{NameMatches, TypeMatches, Matches, MatchesEach, 
 use Rattle.bk_form_laws.specs.Fits.{is_special, IsThere}
 use Rattle.bk_form_laws.specs.Rules.{IsPlain, ArePlain}
 use Rattle.bk_form_laws.specs.Typed.{Seen, is_base, seen, Shows, HasResult, IsNamed, IsTyped, Fits, FitEach}
-use Rattle.bk_mean.proofs.Named.{is_named, found_value, to_contains}
+use Rattle.bk_places.proofs.Elements.{to_contains}
+use Rattle.bk_mean.proofs.Named.{is_named, found_value}
 use Rattle.bk_form_laws.proofs.Matched.{in_ordered}
 use Rattle.bk_form_laws.proofs.Steps.{there}
 use Rattle.std.proofs.lemmas.List.Elements.{All-contains}

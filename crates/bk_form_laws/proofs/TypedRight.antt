@@ -30,7 +30,8 @@ use Rattle.bk_form_laws.specs.Fits.{is_special, IsThere, Replaces}
 use Rattle.bk_refine_laws.specs.Trees.{NamesBelow}
 use Rattle.bk_form_laws.specs.Rules.{IsBuilt, AreBuilt}
 use Rattle.bk_form_laws.specs.Typed.{Seen, is_base, seen, Takes, HasResult, type_of, shown, IsRight, AreRight}
-use Rattle.bk_mean.proofs.Named.{IsNamed, is_named, found_value, in_left, in_right, in_either}
+use Rattle.bk_places.proofs.Elements.{in_left, in_right, in_either}
+use Rattle.bk_mean.proofs.Named.{IsNamed, is_named, found_value}
 use Rattle.bk_form_laws.proofs.Matched.{Under, under_number}
 use Rattle.bk_form_laws.proofs.New.{IsNode}
 use Rattle.bk_form_laws.proofs.TypedLeft.{seen_of, shows_in}

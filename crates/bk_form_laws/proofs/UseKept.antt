@@ -8,7 +8,7 @@ use Rattle.bk_func.specs.Form.Text.{IsPhi}
 use Rattle.bk_func.specs.Form.Walks.{IsDefinedAt, DefinesControl, DefinesArguments}
 use Rattle.bk_func.proofs.Faults.{In}
 use Rattle.bk_form_laws.specs.Visits.{IsNew}
-use Rattle.bk_mean.proofs.Named.{to_in}
+use Rattle.bk_places.proofs.Elements.{to_in}
 use Rattle.bk_mean.proofs.Dominance.{defined_here}
 use Rattle.bk_form_laws.proofs.Pairs.{shape, in_old, defined_over}
 use Rattle.bk_form_laws.proofs.Turning.{new_in}

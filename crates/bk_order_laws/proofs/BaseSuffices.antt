@@ -6,7 +6,8 @@ use Rattle.bk_func.specs.Form.States.{Names}
 use Rattle.bk_func.specs.Form.Before.{IsLoad, IsNilCheck, IsTakenBy, Needs, takes, through, IsListed, Checks, Loads, ComesBefore, argument, state, checks, needed, unneeded, Precedes, right, onward}
 use Rattle.bk_order_laws.specs.Base.{BaseBefore, BasePrecedes, AreInTurn}
 use Rattle.bk_order_laws.specs.Base as base
-use Rattle.bk_mean.proofs.Named.{to_in, in_got}
+use Rattle.bk_places.proofs.Elements.{to_in}
+use Rattle.bk_mean.proofs.Named.{in_got}
 use Rattle.bk_order_laws.proofs.First.{base_onward}
 
 -- a nil check u comes before a load v of its state, by the rules for loads

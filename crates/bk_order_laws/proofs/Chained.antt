@@ -7,7 +7,8 @@ use Rattle.bk_func.specs.Form.Walks.{begin, IsReached}
 use Rattle.bk_func.specs.Form.States.{IsState, IsStateOf, Names, IsLinked, first, more, IsChain, Carries, IsFirstState, Starts, HasChain, HasMemoryPhi, IsStateIn}
 use Rattle.bk_func.specs.Form.Signatures.{Setting}
 use Rattle.bk_func.proofs.Faults.{In}
-use Rattle.bk_mean.proofs.Named.{IsNamed, to_in, to_contains}
+use Rattle.bk_places.proofs.Elements.{to_in, to_contains}
+use Rattle.bk_mean.proofs.Named.{IsNamed}
 use Rattle.bk_mean.proofs.Dominance.{reached_block}
 use Rattle.bk_order_laws.specs.Base.{BasePrecedes}
 use Rattle.bk_order_laws.proofs.Standing.{Standing}

@@ -7,7 +7,8 @@ use Rattle.bk_func.specs.Form.Walks.{IsReached, IsDefinedAt}
 use Rattle.bk_func.specs.Form.States.{StandsFor, itself, copied as through_copy, Names}
 use Rattle.bk_func.specs.Form.Signatures.{Setting}
 use Rattle.bk_func.proofs.Faults.{In}
-use Rattle.bk_mean.proofs.Named.{to_contains, got_in}
+use Rattle.bk_places.proofs.Elements.{to_contains}
+use Rattle.bk_mean.proofs.Named.{got_in}
 use Rattle.bk_mean.proofs.Dominance.{Dominates, dominates_itself, dominates_onward, one_dominates, defined_from, defined_here, home, arguments_defined}
 use Rattle.bk_order_laws.specs.Base.{argument, BasePrecedes, right, onward}
 use Rattle.bk_order_laws.proofs.Standing.{Standing, names_no_phi}

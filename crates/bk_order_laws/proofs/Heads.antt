@@ -8,7 +8,7 @@ use Rattle.bk_func.specs.Form.Walks.{IsReached}
 use Rattle.bk_func.specs.Form.States.{IsStateOf, Names, IsLinked, first, more, IsChain, Carries, made, kept, IsFirstState}
 use Rattle.bk_func.specs.Form.Signatures.{Setting}
 use Rattle.bk_func.proofs.Faults.{In}
-use Rattle.bk_mean.proofs.Named.{to_in, to_contains}
+use Rattle.bk_places.proofs.Elements.{to_in, to_contains}
 use Rattle.bk_order_laws.proofs.Standing.{Standing, names_once}
 
 pub top_of : (f : FuncRecord) (b : BlockRecord) (m : ℕ) (ms : List ℕ) → IsChain f b (m ∷ ms) → IsStateOf f b m
