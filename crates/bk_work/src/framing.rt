@@ -1,5 +1,6 @@
 // A lowered function in registers and slots, in its frame.
 ghost use Rattle.std.specs.Prelude.{◌≡◌, ◌≤◌, ◌<◌, ◌+◌, ℕ, false, length, map, IfErr, IfOk, IsOk, OnOk};
+ghost use Rattle.bk_callees.specs.Callees.{AreCallees};
 ghost use Rattle.bk_calls.specs.Frame.{frame_bytes, need};
 ghost use Rattle.bk_func.specs.Limits.{most_frame};
 ghost use Rattle.bk_graph.specs.Critical.{without_critical};
@@ -11,7 +12,8 @@ ghost use Rattle.bk_work.specs.Stops.{IfRefused};
 
 use crate::listed::put;
 use crate::refusals::{Cause, Stop};
-use bk_alloc::allocate;
+use bk_alloc::allocate_by;
+use bk_callees::Callees;
 use bk_calls::frame_of;
 use bk_func::{
     Block, Func, MOST_IN_SIGNATURE, MOST_VALUES_MADE, Memory, Package, Placed, Sig, copy_func,
@@ -43,16 +45,18 @@ impl Model for Framed {
 pub(crate) fn in_frame(
     alloc: Global,
     pkg: &Package,
+    callees: &Callees,
     target: Target,
     func: &Func,
 ) -> Result<Framed, Stop>
+    requires { AreCallees pkg.now callees.now }
     ensures framed { IfOk result (IsFramed pkg.now target func.now) }
     ensures cause { IfErr result (λ stop. IfRefused stop (λ cause. (bytes : ℕ) × IsTooDeep pkg.now target func.now bytes × (cause ≡ Cause.Frame bytes))) }
 {
     // Moves stand where a block is entered from one block alone, or left to one alone.
     let func = split(alloc, func)?;
     // Places go by the order of blocks and of the values in them.
-    let placed = placed(alloc, pkg, target, &func)?;
+    let placed = placed(alloc, pkg, callees, target, &func)?;
     // The frame has a word for each slot.
     let frame = frame(&func, &placed, target)?;
     Ok(Framed {
@@ -83,13 +87,20 @@ fn ask_joined(alloc: Global, func: &Func) -> Result<(), Memory>
     }
 }
 
-fn placed(alloc: Global, pkg: &Package, target: Target, func: &Func) -> Result<Placed, Memory>
+fn placed(
+    alloc: Global,
+    pkg: &Package,
+    callees: &Callees,
+    target: Target,
+    func: &Func,
+) -> Result<Placed, Memory>
+    requires { AreCallees pkg.now callees.now }
     ensures { IfOk result (IsPlaced pkg.now target func.now) }
 {
     ask_joined(alloc, func)?;
     let layout = layout(alloc, func)?;
     let orders = orders(alloc, &func.blocks)?;
-    allocate(alloc, func, pkg, &layout, &orders, target)
+    allocate_by(alloc, func, pkg, callees, &layout, &orders, target)
 }
 
 /// The order of each block's values, in block order.

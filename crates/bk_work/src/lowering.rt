@@ -1,5 +1,6 @@
 // A function from SSA form to the target's ops on words.
 ghost use Rattle.std.specs.Prelude.{◌≡◌, ℕ, Some, true, slice_get, IfErr, IfOk, OnOk};
+ghost use Rattle.bk_callees.specs.Callees.{AreCallees};
 ghost use Rattle.bk_calls.specs.Budget.{is_grown};
 ghost use Rattle.bk_dec64.specs.Budget as halves;
 ghost use Rattle.bk_func.specs.Records.{FuncRecord};
@@ -15,8 +16,9 @@ ghost use Rattle.bk_work.specs.Stops.{IfRefused};
 use crate::numbers::{has_numbers, has_room};
 use crate::refusals::{Cause, Stop};
 use crate::rules::Lists;
-use bk_calls::word_areas;
-use bk_dec64::decompose;
+use bk_callees::Callees;
+use bk_calls::word_areas_by;
+use bk_dec64::decompose_by;
 use bk_func::{Func, Memory, Package, copy_func, first_construct};
 use bk_graph::clean;
 use bk_ops::Target;
@@ -39,7 +41,7 @@ pub fn compile_one(
     ensures cause { (f : FuncRecord) → slice_get pkg.now.funcs func ≡ Some f → IfOk result (λ made. IfErr made (IsRefused pkg.now target (rules_of target extra.now) f)) }
     ensures unframed { IfOk result (λ made. IfErr made IsUnframed) }
 {
-    let lists = Lists::new(alloc, target, extra)?;
+    let lists = Lists::new(alloc, pkg, target, extra)?;
     let Some(func) = pkg.funcs.get(func as usize) else {
         return Err(Memory);
     };
@@ -58,11 +60,16 @@ pub(crate) fn lowered(
     lists: &Lists,
     func: &Func,
 ) -> Result<Func, Stop>
-    requires { AreIndexes lists.now.rules lists.now.indexes }
+    requires indexes { AreIndexes lists.now.rules lists.now.indexes }
+    requires callees { AreCallees pkg.now lists.now.callees }
     ensures lowered { IfOk result (IsLowered pkg.now target lists.now.rules func.now) }
     ensures cause { IfErr result (λ stop. IfRefused stop (λ cause. IsRefused pkg.now target lists.now.rules func.now cause × IsUnframed cause)) }
 {
-    let Lists { rules, indexes } = lists;
+    let Lists {
+        rules,
+        indexes,
+        callees,
+    } = lists;
     // Dead values go before all, so that one that the target has no code for refuses nothing.
     let live = coded(alloc, func, target)?;
     // Rules that hold on every target take values as wide as their types, so they come before words, which may be wider.
@@ -70,7 +77,7 @@ pub(crate) fn lowered(
     // Words of arm have 32 bits, and calls take and give words.
     let fit = fitted(alloc, pkg, generic, lists, target)?;
     // Calls take and give words before the target's rules, which know words alone.
-    let words = in_words(alloc, pkg, fit, target)?;
+    let words = in_words(alloc, pkg, callees, fit, target)?;
     // Last, since nothing else knows the target's own ops.
     settled(alloc, words, &rules.machine, &indexes.machine, target)
 }
@@ -148,12 +155,20 @@ fn fitted(
     lists: &Lists,
     target: Target,
 ) -> Result<Func, Stop>
-    requires { AreIndexes lists.now.rules lists.now.indexes }
+    requires indexes { AreIndexes lists.now.rules lists.now.indexes }
+    requires callees { AreCallees pkg.now lists.now.callees }
     ensures fitted { IfOk result (IsFitted pkg.now target lists.now.rules.halves func) }
     ensures cause { IfErr result (λ stop. IfRefused stop (IsUnfit pkg.now target lists.now.rules.halves func)) }
 {
     match target {
-        Target::Arm => { in_halves(alloc, pkg, func, &lists.rules.halves, &lists.indexes.halves) }
+        Target::Arm => in_halves(
+            alloc,
+            pkg,
+            &lists.callees,
+            func,
+            &lists.rules.halves,
+            &lists.indexes.halves,
+        ),
         Target::Riscv64 => Ok(func),
     }
 }
@@ -162,32 +177,47 @@ fn fitted(
 fn in_halves(
     alloc: Global,
     pkg: &Package,
+    callees: &Callees,
     func: Func,
     rules: &[Rule],
     index: &Index,
 ) -> Result<Func, Stop>
-    requires { IsIndex rules.now index.now }
+    requires callees { AreCallees pkg.now callees.now }
+    requires index { IsIndex rules.now index.now }
     ensures halves { IfOk result (IsInHalves pkg.now rules.now func) }
     ensures cause { IfErr result (λ stop. IfRefused stop (IsUnhalved pkg.now rules.now func)) }
 {
-    let apart = apart(alloc, pkg, func)?;
+    let apart = apart(alloc, pkg, callees, func)?;
     settled(alloc, apart, rules, index, Target::Arm)
 }
 
-fn apart(alloc: Global, pkg: &Package, func: Func) -> Result<Func, Stop>
+fn apart(
+    alloc: Global,
+    pkg: &Package,
+    callees: &Callees,
+    func: Func,
+) -> Result<Func, Stop>
+    requires { AreCallees pkg.now callees.now }
     ensures apart { IfOk result (IsDecomposed pkg.now func) }
     ensures cause { IfErr result (λ stop. IfRefused stop (λ cause. (halves.is_grown pkg.now func ≡ true) × (cause ≡ grown))) }
 {
     let mut func = func;
-    decompose(alloc, &mut func, pkg)?;
+    decompose_by(alloc, &mut func, pkg, callees)?;
     Ok(func)
 }
 
-fn in_words(alloc: Global, pkg: &Package, func: Func, target: Target) -> Result<Func, Stop>
+fn in_words(
+    alloc: Global,
+    pkg: &Package,
+    callees: &Callees,
+    func: Func,
+    target: Target,
+) -> Result<Func, Stop>
+    requires { AreCallees pkg.now callees.now }
     ensures words { IfOk result (IsInWords pkg.now target func) }
     ensures cause { IfErr result (λ stop. IfRefused stop (λ cause. (is_grown target func ≡ true) × (cause ≡ grown))) }
 {
     let mut func = func;
-    word_areas(alloc, &mut func, pkg, target)?;
+    word_areas_by(alloc, &mut func, pkg, callees, target)?;
     Ok(func)
 }

@@ -1,5 +1,6 @@
 // What comes of each function of a package.
 ghost use Rattle.std.specs.Prelude.{◌≡◌, ◌++◌, ◌∷◌, [], IfErr, IfOk, List, OnOk, length};
+ghost use Rattle.bk_callees.specs.Callees.{AreCallees};
 ghost use Rattle.bk_func.specs.Records.{FuncRecord, PackageRecord};
 ghost use Rattle.bk_work.specs.Framed.{IsMade};
 ghost use Rattle.bk_work.specs.Indexed.{AreIndexes};
@@ -31,7 +32,8 @@ impl Outcomes {
         target: Target,
         lists: &Lists,
     ) -> Result<Outcomes, Memory>
-        requires { AreIndexes lists.now.rules lists.now.indexes }
+        requires indexes { AreIndexes lists.now.rules lists.now.indexes }
+        requires callees { AreCallees pkg.now lists.now.callees }
         ensures { IfOk result (λ it. AreOutcomes pkg.now target lists.now.rules 0 pkg.now.funcs it.framed.items it.refusals.items) }
     {
         let mut outcomes = Outcomes {
@@ -84,10 +86,11 @@ fn made(
     lists: &Lists,
     func: &Func,
 ) -> Result<Framed, Stop>
-    requires { AreIndexes lists.now.rules lists.now.indexes }
+    requires indexes { AreIndexes lists.now.rules lists.now.indexes }
+    requires callees { AreCallees pkg.now lists.now.callees }
     ensures made { IfOk result (IsMade pkg.now target lists.now.rules func.now) }
     ensures cause { IfErr result (λ stop. IfRefused stop (IsRefused pkg.now target lists.now.rules func.now)) }
 {
     let lowered = lowered(alloc, pkg, target, lists, func)?;
-    in_frame(alloc, pkg, target, &lowered)
+    in_frame(alloc, pkg, &lists.callees, target, &lowered)
 }

@@ -155,7 +155,7 @@ fn all_framed(
     ensures cause { IfErr result (IsError pkg.now target extra.now) }
     ensures unlinked { IfErr result (λ error. (n : ℕ) → error ≡ PackageError.Text n → ⊥) }
 {
-    let lists = Lists::new(alloc, target, extra)?;
+    let lists = Lists::new(alloc, pkg, target, extra)?;
     let outcomes = Outcomes::new(alloc, pkg, target, &lists)?;
     if outcomes.refusals.is_empty() {
         Ok(outcomes.framed)

@@ -1,11 +1,13 @@
-// The rules of the rewritings.
+// The rules of the rewritings, and what else is made once for all functions of a package.
 ghost use Rattle.std.specs.Prelude.{◌≡◌, ◌++◌, IfOk};
+ghost use Rattle.bk_callees.specs.Callees.{AreCallees};
 ghost use Rattle.bk_rules_dec64.specs.Lines.{dec64_list};
 ghost use Rattle.bk_rules_generic.specs.Lines.{generic_list};
 ghost use Rattle.bk_work.specs.Indexed.{AreIndexed, AreIndexes};
 ghost use Rattle.bk_work.specs.Rules.{halves_rules, machine_rules, rules_of};
 
-use bk_func::Memory;
+use bk_callees::Callees;
+use bk_func::{Memory, Package};
 use bk_ops::Target;
 use bk_rewrite::{Index, index_rules};
 use bk_rule::{Rule, copy_rules};
@@ -81,27 +83,46 @@ impl Indexes {
     }
 }
 
-/// The rules of the rewritings with their indexes, made once for all functions of a package.
+/// What is made once for all functions of a package: the rules of the rewritings with their indexes, and the callees.
 #[derive(Drop)]
 pub struct Lists {
     pub(crate) rules: Rules,
     pub(crate) indexes: Indexes,
+    pub(crate) callees: Callees,
 }
 
 impl Lists {
-    pub(crate) fn new(alloc: Global, target: Target, extra: &[Rule]) -> Result<Lists, Memory>
-        ensures { IfOk result (AreIndexed (rules_of target extra.now)) }
+    pub(crate) fn new(
+        alloc: Global,
+        pkg: &Package,
+        target: Target,
+        extra: &[Rule],
+    ) -> Result<Lists, Memory>
+        ensures indexed { IfOk result (AreIndexed (rules_of target extra.now)) }
+        ensures callees { IfOk result (λ lists. AreCallees pkg.now lists.callees) }
     {
         let rules = Rules::new(alloc, target, extra)?;
-        let indexes = Indexes::new(alloc, &rules)?;
-        Ok(Lists { rules, indexes })
+        Lists::of(alloc, pkg, rules)
     }
 
     /// No rules.
-    pub(crate) fn none(alloc: Global) -> Result<Lists, Memory> {
-        let rules = Rules::none(alloc);
+    pub(crate) fn none(alloc: Global, pkg: &Package) -> Result<Lists, Memory>
+        ensures { IfOk result (λ lists. AreCallees pkg.now lists.callees) }
+    {
+        Lists::of(alloc, pkg, Rules::none(alloc))
+    }
+
+    fn of(alloc: Global, pkg: &Package, rules: Rules) -> Result<Lists, Memory>
+        ensures indexed { IfOk result (AreIndexed rules) }
+        ensures callees { IfOk result (λ lists. AreCallees pkg.now lists.callees) }
+    {
         let indexes = Indexes::new(alloc, &rules)?;
-        Ok(Lists { rules, indexes })
+        let callees = Callees::new(alloc, pkg)?;
+        Ok(Lists {
+            rules,
+            indexes,
+            callees,
+        })
     }
 }
 

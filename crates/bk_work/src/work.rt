@@ -1,6 +1,7 @@
 // What a worker does in a round.
 ghost use Rattle.std.specs.Prelude.{ℕ, ◌≡◌, IfOk, IfSome, Some, length, slice_get};
 ghost use Rattle.std.specs.List.{All, Contains};
+ghost use Rattle.bk_callees.specs.Callees.{AreCallees};
 ghost use Rattle.bk_core.specs.Rule.{keys_of};
 ghost use Rattle.bk_func.specs.Records.{FuncRecord};
 ghost use Rattle.bk_share.specs.Passes.{IsPassOf, announced_in, view};
@@ -16,6 +17,7 @@ use crate::lowering::lowered;
 use crate::refusals::Stop;
 use crate::rounds::{Job, Round};
 use crate::rules::Lists;
+use bk_callees::Callees;
 use bk_fixup::keys_of;
 use bk_func::{Func, Memory, Package};
 use bk_io::Gate;
@@ -61,19 +63,21 @@ impl<'a> Round<'a> {
         }
     }
 
-    /// The rules by which the worker lowers.
+    /// The rules by which the worker lowers, and the callees of the package.
     fn lists(&self, alloc: Global) -> Result<Lists, Memory>
-        ensures { IfOk result (AreRules self.now.target self.now.job) }
+        ensures rules { IfOk result (AreRules self.now.target self.now.job) }
+        ensures callees { IfOk result (λ lists. AreCallees self.now.pkg.now lists.callees) }
     {
         match &self.job {
-            Job::Lower(extra) => Lists::new(alloc, self.target, extra),
-            Job::Emit(_, _) => Lists::none(alloc),
+            Job::Lower(extra) => Lists::new(alloc, self.pkg, self.target, extra),
+            Job::Emit(_, _) => Lists::none(alloc, self.pkg),
         }
     }
 
     /// Does the job on the function at a place of the package.
     fn done(&self, alloc: Global, pass: &mut Pass, lists: &Lists, func: u32) -> Result<Done, Memory>
         requires rules { AreRules self.now.target self.now.job lists.now }
+        requires callees { AreCallees self.now.pkg.now lists.now.callees }
         requires pass { IsPassOf self.now.share pass.old }
         ensures pass { IsPassOf self.now.share pass.new }
         ensures knows { KnowsOn (view pass.old) (view pass.new) }
@@ -85,7 +89,7 @@ impl<'a> Round<'a> {
                 let Some(entry) = entry_of(places, lowered, func) else {
                     return Err(Memory);
                 };
-                self.emitted(alloc, pass, entry)
+                self.emitted(alloc, pass, &lists.callees, entry)
             }
         }
     }
@@ -95,15 +99,17 @@ impl<'a> Round<'a> {
         &self,
         alloc: Global,
         pass: &mut Pass,
+        callees: &Callees,
         entry: &(Func, Vec<Key>),
     ) -> Result<Done, Memory>
+        requires callees { AreCallees self.now.pkg.now callees.now }
         requires pass { IsPassOf self.now.share pass.old }
         requires keys { All (IsAnnounced (announced_in self.now.share)) entry.now.1.items }
         ensures pass { IsPassOf self.now.share pass.new }
         ensures knows { KnowsOn (view pass.old) (view pass.new) }
         ensures done { IfOk result (IsSecond self.now.pkg.now self.now.target (Contains (view pass.new).known) entry.now) }
     {
-        match in_frame(alloc, self.pkg, self.target, &entry.0) {
+        match in_frame(alloc, self.pkg, callees, self.target, &entry.0) {
             Ok(framed) => self.ready(alloc, pass, &framed, &entry.1),
             Err(Stop::Refused(cause)) => Ok(Done::Refused(cause)),
             Err(Stop::Memory) => Err(Memory),
@@ -138,7 +144,8 @@ fn lowered_at(
     lists: &Lists,
     func: u32,
 ) -> Result<Done, Memory>
-    requires { AreIndexes lists.now.rules lists.now.indexes }
+    requires indexes { AreIndexes lists.now.rules lists.now.indexes }
+    requires callees { AreCallees pkg.now lists.now.callees }
     ensures { IfOk result (λ done. (f : FuncRecord) × (slice_get pkg.now.funcs func ≡ Some f) × IsFirst pkg.now target lists.now.rules f done) }
 {
     let Some(func) = pkg.funcs.get(func as usize) else {

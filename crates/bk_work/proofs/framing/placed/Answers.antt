@@ -12,4 +12,4 @@ returns c =
     let orders = map (λ (o : Vec ℕ Global). o.items) c.deref-3.result.now in
     let scheduled : Each IsSchedule c.args.func.now.blocks orders =
     subst (λ (bs : List BlockRecord). Each IsSchedule bs orders) blocks (subst (λ (os : List (List ℕ)). Each IsSchedule c.deref.result.now os) (sym listed) c.in_ok-orders.ensures) in
-    placed_is c.args.pkg.now c.args.target c.args.func.now c.deref-2.result.now orders c.allocate.result scheduled (c.deref-2.ensures.value ∙ c.in_ok-layout.ensures) c.allocate.ensures
+    placed_is c.args.pkg.now c.args.target c.args.func.now c.deref-2.result.now orders c.allocate_by.result scheduled (c.deref-2.ensures.value ∙ c.in_ok-layout.ensures) c.allocate_by.ensures

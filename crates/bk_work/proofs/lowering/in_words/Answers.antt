@@ -6,9 +6,9 @@ use Rattle.bk_work.proofs.Steps.{refused_words, stopped}
 use Rattle.bk_work.proofs.lowering.in_words.Goals as goal
 
 pub returns-clause-words : goal.returns-clause-words
-returns-clause-words c = record { room = c.in_ok-word_areas.ensures.room; words = c.in_ok-word_areas.ensures.ok }
+returns-clause-words c = record { room = c.in_ok-word_areas_by.ensures.room; words = c.in_ok-word_areas_by.ensures.ok }
 
-pub returns-in_err-word_areas-clause-cause : goal.returns-in_err-word_areas-clause-cause
-returns-in_err-word_areas-clause-cause c =
-    stopped (λ cause. (is_grown c.args.target c.args.func ≡ true) × (cause ≡ grown)) c.from_residual.result (stop_of c.in_err-word_areas.field-0.0) c.from_residual.ensures.1
-    (refused_words (is_grown c.args.target c.args.func ≡ true) c.in_err-word_areas.field-0.0 c.in_err-word_areas.ensures.grown)
+pub returns-in_err-word_areas_by-clause-cause : goal.returns-in_err-word_areas_by-clause-cause
+returns-in_err-word_areas_by-clause-cause c =
+    stopped (λ cause. (is_grown c.args.target c.args.func ≡ true) × (cause ≡ grown)) c.from_residual.result (stop_of c.in_err-word_areas_by.field-0.0) c.from_residual.ensures.1
+    (refused_words (is_grown c.args.target c.args.func ≡ true) c.in_err-word_areas_by.field-0.0 c.in_err-word_areas_by.ensures.grown)
