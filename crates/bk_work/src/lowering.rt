@@ -191,12 +191,7 @@ fn in_halves(
     settled(alloc, apart, rules, index, Target::Arm)
 }
 
-fn apart(
-    alloc: Global,
-    pkg: &Package,
-    callees: &Callees,
-    func: Func,
-) -> Result<Func, Stop>
+fn apart(alloc: Global, pkg: &Package, callees: &Callees, func: Func) -> Result<Func, Stop>
     requires { AreCallees pkg.now callees.now }
     ensures apart { IfOk result (IsDecomposed pkg.now func) }
     ensures cause { IfErr result (λ stop. IfRefused stop (λ cause. (halves.is_grown pkg.now func ≡ true) × (cause ≡ grown))) }
